@@ -1,0 +1,4 @@
+pub mod Bytes
+pub mod Notes
+pub mod Frames
+pub mod Lines

@@ -1,0 +1,33 @@
+// Frames: what craft say, as values and as bytes, and the line by which a craft books.
+pub mod bookings;
+pub mod buffers;
+pub mod frame_bytes;
+pub mod lines;
+pub mod notes;
+pub mod received;
+
+pub use bookings::Booking;
+pub use bookings::MOST_CRAFT;
+pub use buffers::put_at;
+pub use frame_bytes::read_and_written;
+pub use lines::hex_pair;
+pub use matter::AnyMatter;
+pub use matter::AnyMatterMatter;
+pub use matter::KeepOut;
+pub use matter::KeepOutMatter;
+pub use matter::Matter;
+pub use matter::Observation;
+pub use matter::ObservationMatter;
+pub use notes::Frame;
+pub use notes::LAST_NUMBER;
+pub use notes::Note;
+pub use notes::Step;
+pub use received::FRAME_LENGTH;
+pub use received::FRAME_VERSION;
+pub use received::Head;
+pub use received::Received;
+pub use received::read_frame;
+pub use refusals::CraftSet;
+pub use refusals::Fault;
+pub use refusals::Layer;
+pub use refusals::Refusal;

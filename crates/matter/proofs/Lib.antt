@@ -1,0 +1,4 @@
+pub mod Apart
+pub mod Words
+pub mod Layouts
+pub mod KindLaws

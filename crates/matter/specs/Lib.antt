@@ -1,0 +1,5 @@
+pub mod Words
+pub mod Layouts
+pub mod Kinds
+pub mod AnyKind
+pub mod Examples

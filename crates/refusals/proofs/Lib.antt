@@ -1,0 +1,2 @@
+pub mod FirstCause
+pub mod ToldApart
