@@ -52,7 +52,7 @@ impl Frame {
         read_frame(bytes)?.frame()
     }
 
-    // What is written reads back as it was.
+    // A frame comes back from its bytes unchanged.
     pub fn written_and_read(self) -> Result<Frame, Fault>
         ensures { λ r. ⌜ r ≡ Ok self ⌝ }
     {
@@ -60,7 +60,7 @@ impl Frame {
     }
 }
 
-// Accepted bytes are those that the writer gives for what was read.
+// Bytes that the reader takes come back from the writer unchanged.
 pub fn read_and_written(bytes: &[u8]) -> Result<[u8; 15], Fault>
     ensures { λ r. ⌜ Again (now (bytes .entry)) r ⌝ }
 {

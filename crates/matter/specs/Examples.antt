@@ -1,5 +1,5 @@
 -- Worked examples of matter words. Assumes nothing.
---   Worked-words   target 300, start 3,600, length 12, mode 1 is the word 0x01012C000E100C01; with start 86,400 it is refused by 11 at byte 3
+--   Worked-words   the word of an observation of target 300, an hour into the day; starting at the day's end it is refused by 11, at byte 3
 use mathlib.Core.Path.{_≡_}
 use mathlib.Core.List.{[], _∷_}
 use Rattle.std.specs.declared.option.Option.the-variants.{Some, None}

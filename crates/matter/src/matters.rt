@@ -15,11 +15,11 @@ pub trait Matter: Sized {
     // the values of a matter's fields, in the order of the word
     ghost fields: { Self → List ℕ };
 
-    // reading a matter's word gives that matter ..
+    // a matter comes back from its word ..
     law reads: { (m : Self) → Reads kinds (word-of (kind m) (fields m)) (kind m) (fields m) };
-    // .. and no other
+    // .. and no other does
     law apart: { (m n : Self) → kind m ≡ kind n → fields m ≡ fields n → m ≡ n };
-    // a word that is read is the word of what was read
+    // a word that is read comes back from what was read
     law again: { (w : ℕ) (m : Self) → Reads kinds w (kind m) (fields m) → word-of (kind m) (fields m) ≡ w };
     // a word has eight bytes
     law eight: { (m : Self) → word-of (kind m) (fields m) < 2 ^ 64 };
@@ -33,14 +33,14 @@ pub trait Matter: Sized {
         ensures { λ r. ⌜ ReadAs kinds kind fields word r ⌝ };
 }
 
-// Reading a matter's word gives that matter, whatever its kind.
+// A matter comes back from its word, whatever its kind.
 pub fn read_back<M: Matter>(matter: &M) -> Result<M, Fault>
     ensures { λ r. ⌜ r ≡ Ok (now (matter .entry)) ⌝ }
 {
     M::of_word(matter.word())
 }
 
-// A word that is read is the word of what was read; any other is refused as its reader refuses it.
+// A word that is read comes back from what was read; any other is refused as its reader refuses it.
 pub fn written_again<M: Matter + Drop>(word: u64) -> Result<u64, Fault>
     ensures { λ r. ⌜ WrittenAgain kinds word r ⌝ }
 {

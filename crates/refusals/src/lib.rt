@@ -19,7 +19,7 @@ pub enum Refusal {
     Label(u8),
     // 2: N is outside 2 to 8, or not above 3f; N
     Size(usize),
-    // 3: a chart's row names itself, a label not below N, or a craft that does not name it; the first such row
+    // 3: a row of a chart names its own craft, a label that no craft has, or a craft whose row lacks it; the first such row
     Row(u8),
     // 4: a chart is too thin; the first pair that a set of craft cuts apart, and the lowest such set
     Thin(u8, u8, CraftSet),
