@@ -1,5 +1,4 @@
 -- The booking line: 28 bytes. Assumes nothing.
---   most-craft       the most craft that a flight has
 --   booking-causes   why a booking is none: a label that no craft has, craft before origin, or a number above 3
 --   Booked           what the constructor of a booking answers
 --   hex              one lowercase hexadecimal digit, as its ASCII code
@@ -18,14 +17,12 @@ use Rattle.refusals.specs.declared.Fault.{Fault}
 use Rattle.frames.specs.declared.bookings.Booking.{Booking}
 use Rattle.matter.specs.Words.{word-bytes}
 use Rattle.frames.specs.Notes.{last-number}
+use Rattle.sets.specs.Sets.{labels}
 use Rattle.refusals.specs.Refusals.{Cause, cause, refusal, told}
-
-abbrev pub most-craft : ℕ
-most-craft = 8
 
 abbrev pub booking-causes : ℕ → ℕ → ℕ → List Cause
 booking-causes craft origin number =
-    cause 1 1 (craft ∷ []) (leb most-craft craft) ∷ cause 1 1 (origin ∷ []) (leb most-craft origin) ∷ cause 1 5 (number ∷ []) (ltb last-number number) ∷ []
+    cause 1 1 (craft ∷ []) (leb labels craft) ∷ cause 1 1 (origin ∷ []) (leb labels origin) ∷ cause 1 5 (number ∷ []) (ltb last-number number) ∷ []
 
 pub record Holds (b : Booking) (craft origin number word : ℕ) : Type 0 where
   pub craft-is : b .craft ≡ craft

@@ -1,8 +1,6 @@
 // A booking. Its labels are those of craft, and its number that of an order: nothing else can be made.
 ghost use Prim.Native.Nat.{_<_, _≤_};
-
-// The most craft that a flight has.
-pub const MOST_CRAFT: u8 = 8;
+ghost use Rattle.sets.specs.Sets.{labels};
 
 // A craft books, under its own label, the word delivered for an origin and a number.
 #[derive(Clone, Copy)]
@@ -11,6 +9,6 @@ pub struct Booking {
     pub origin: u8,
     pub number: u8,
     pub word: u64,
-    ghost labels: { (craft < 8) × (origin < 8) },
+    ghost labelled: { (craft < labels) × (origin < labels) },
     ghost numbered: { number ≤ 3 },
 }

@@ -7,7 +7,6 @@ pub mod notes;
 pub mod received;
 
 pub use bookings::Booking;
-pub use bookings::MOST_CRAFT;
 pub use buffers::put_at;
 pub use frame_bytes::read_and_written;
 pub use lines::hex_pair;
@@ -27,7 +26,8 @@ pub use received::FRAME_VERSION;
 pub use received::Head;
 pub use received::Received;
 pub use received::read_frame;
-pub use refusals::CraftSet;
 pub use refusals::Fault;
 pub use refusals::Layer;
 pub use refusals::Refusal;
+pub use sets::CraftSet;
+pub use sets::LABELS;

@@ -5,12 +5,12 @@ ghost use Prim.Native.Nat.{_<_, _/_, _%_};
 ghost use Rattle.frames.specs.Bytes.{Puts};
 ghost use Rattle.frames.specs.Lines.{Booked, hex, hexes, line-bytes};
 use crate::bookings::Booking;
-use crate::bookings::MOST_CRAFT;
 use crate::buffers::put_at;
 use crate::notes::LAST_NUMBER;
 use refusals::Fault;
 use refusals::Layer;
 use refusals::Refusal;
+use sets::LABELS;
 
 // The lowercase hexadecimal digit of a number below 16, in ASCII.
 fn hex_digit(n: u8) -> u8
@@ -49,10 +49,10 @@ impl Booking {
     pub fn new(craft: u8, origin: u8, number: u8, word: u64) -> Result<Booking, Fault>
         ensures { λ r. ⌜ Booked craft origin number word r ⌝ }
     {
-        if craft >= MOST_CRAFT {
+        if craft >= LABELS {
             return Err(Layer::Frames.refuses(Refusal::Label(craft)));
         }
-        if origin >= MOST_CRAFT {
+        if origin >= LABELS {
             return Err(Layer::Frames.refuses(Refusal::Label(origin)));
         }
         if number > LAST_NUMBER {

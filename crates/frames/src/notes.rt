@@ -1,7 +1,7 @@
 // Notes and frames as values.
 ghost use mathlib.Core.Path.{_≡_};
 ghost use Rattle.frames.specs.Notes.{sound, step-byte};
-use refusals::CraftSet;
+use sets::CraftSet;
 
 // Orders of one craft are numbered 0 to 3.
 pub const LAST_NUMBER: u8 = 3;
@@ -15,19 +15,20 @@ pub enum Step {
 }
 
 // What a craft says: a step, the craft whose order it is about (the origin), that order's number, and its content word.
+// Fields lie in memory as they stand here: the widest goes first, here and below, so that no room is lost between them.
 #[derive(Clone, Copy, PartialEq, Eq, Debug)]
 pub struct Note {
+    pub content: u64,
     pub step: Step,
     pub origin: u8,
     pub number: u8,
-    pub content: u64,
 }
 
 // A note on its way: who says it (the author), the note, and the set of craft that it is said to have come through.
 #[derive(Clone, Copy, PartialEq, Eq, Debug)]
 pub struct Frame {
-    pub author: u8,
     pub note: Note,
+    pub author: u8,
     pub set: CraftSet,
 }
 

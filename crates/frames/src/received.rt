@@ -3,10 +3,10 @@ ghost use Rattle.frames.specs.Frames.{ReadsAs, Taken, TakenApart};
 use crate::notes::Frame;
 use crate::notes::Note;
 use crate::notes::Step;
-use refusals::CraftSet;
 use refusals::Fault;
 use refusals::Layer;
 use refusals::Refusal;
+use sets::CraftSet;
 
 // A frame's length in bytes, which is its first byte too.
 pub const FRAME_LENGTH: u8 = 15;

@@ -2,6 +2,7 @@
 ghost use mathlib.Core.Path.{_≡_};
 ghost use Rattle.refusals.specs.Refusals.{number-of, layer-number};
 ghost use Rattle.refusals.specs.Apart.{Told-apart, Numbers-to};
+use sets::CraftSet;
 
 // The four layers, from the bottom up: the one whose test failed stands in the fault.
 #[derive(Clone, Copy, PartialEq, Eq, Debug)]
@@ -48,9 +49,6 @@ pub enum Refusal {
     // 16: a step or a record is of no known kind
     Unknown,
 }
-
-// A set of craft: bit i stands for the craft with label i.
-pub type CraftSet = u8;
 
 // A refusal and the layer that it comes from, which stays on the way up.
 #[derive(Clone, Copy, PartialEq, Eq, Debug)]

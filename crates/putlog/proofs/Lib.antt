@@ -1,0 +1,3 @@
+pub mod Removals
+pub mod Sizes
+pub mod Strikes
