@@ -26,6 +26,7 @@ use Rattle.frames.specs.Frames.{layout, head-in, frame-bytes, read-causes, ste
 use Rattle.frames.specs.Notes.{step-byte}
 use Rattle.refusals.specs.Refusals.{refusal, told}
 use Rattle.refusals.proofs.FirstCause.{passed}
+use Rattle.frames.proofs.NoteLaws.{same-step}
 use Rattle.matter.proofs.Words.{bytes-of-word-in, word-in-bytes}
 
 layout-accepted : (s : steps.Step) (h : Head) (w : ℕ) → refusal (read-causes (layout (step-byte s) h (word-bytes w))) ≡ None
@@ -35,17 +36,6 @@ layout-accepted step.Ready h w = refl
 
 pub frame-accepted : (f : Frame) → refusal (read-causes (frame-bytes f)) ≡ None
 frame-accepted f = layout-accepted (f .note .step) (head-in f) (f .note .content)
-
-same-step : (s t : steps.Step) → step-byte s ≡ step-byte t → s ≡ t
-same-step step.Send step.Send e = refl
-same-step step.Send step.Echo e = absurd (omega arith)
-same-step step.Send step.Ready e = absurd (omega arith)
-same-step step.Echo step.Send e = absurd (omega arith)
-same-step step.Echo step.Echo e = refl
-same-step step.Echo step.Ready e = absurd (omega arith)
-same-step step.Ready step.Send e = absurd (omega arith)
-same-step step.Ready step.Echo e = absurd (omega arith)
-same-step step.Ready step.Ready e = refl
 
 -- a frame is its fields
 frame-is : (a b : ℕ) (s t : steps.Step) (o p k l v w c d : ℕ) → a ≡ b → s ≡ t → o ≡ p → k ≡ l → v ≡ w → c ≡ d

@@ -1,0 +1,4 @@
+pub mod Kept
+pub mod Coverings
+pub mod FreeRows
+pub mod TableLaws
