@@ -21,11 +21,11 @@ pub held-at : (ss : List Shelf) (p a : ℕ) (x : Note) (u : ℕ) (r : Bool) (s d
 held-at ss p a x u r s d lt held more =
     let same = getD-default ss p d empty-shelf lt in
     record {
-        here =
-            subst (λ (t : Shelf). Held (rows-of (getD ss p empty-shelf)) a x u r (rows-of t)) (sym (getD-set-same ss p s empty-shelf lt))
-            (subst (λ (t : Shelf). Held (rows-of t) a x u r (rows-of s)) same held);
-        others = λ q ne. ap rows-of (getD-set-other ss p q s empty-shelf ne);
-        free = fewest-set ss p s lt (omega (arith, ap (λ (t : Shelf). t .len) same)) labels
+      here =
+          subst (λ (t : Shelf). Held (rows-of (getD ss p empty-shelf)) a x u r (rows-of t)) (sym (getD-set-same ss p s empty-shelf lt))
+          (subst (λ (t : Shelf). Held (rows-of t) a x u r (rows-of s)) same held);
+      others = λ q ne. ap rows-of (getD-set-other ss p q s empty-shelf ne);
+      free = fewest-set ss p s lt (omega (arith, ap (λ (t : Shelf). t .len) same)) labels;
     }
 
 pub holds-at : (ss : List Shelf) (p a : ℕ) (x : Note) (u : ℕ) (r : Bool) (s d : Shelf) → p < length ss → p < labels

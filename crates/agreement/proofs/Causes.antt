@@ -1,0 +1,45 @@
+-- A call is accepted exactly where no cause holds. Assumes nothing.
+--   Clear           no cause of a list holds
+--   clear           where none is answered, none holds
+--   accepts         where none holds, none is answered
+--   clear-rest      causes behind others
+--   clear-append    causes of two lists, one after the other
+--   word-clear      where a word has no refusal, it is no cause
+--   clear-word      a word that is no cause has no refusal
+use mathlib.Core.Path.{_≡_, refl, _∙_}
+use mathlib.Core.Bool.{true, false}
+use mathlib.Core.List.{List, [], _∷_, _++_}
+use Rattle.std.specs.declared.option.Option.{Option}
+use Rattle.std.specs.declared.option.Option.the-variants.{Some, None}
+use Rattle.std.proofs.shelf.Tests.{cond-false, true≢false}
+use Rattle.refusals.specs.Refusals.{Told, Cause, refusal}
+use Rattle.refusals.proofs.FirstCause.{passed}
+use Rattle.agreement.specs.Flights.{word-cause}
+
+abbrev pub Clear : List Cause → Type 0
+Clear [] = Unit {0}
+Clear (c ∷ cs) = (c .holds ≡ false) × Clear cs
+
+pub clear : (cs : List Cause) → refusal cs ≡ None → Clear cs
+clear [] e = tt
+clear (c ∷ cs) e = let h = passed (c .holds) (c .tells) (refusal cs) e in (h .0, clear cs (h .1))
+
+pub accepts : (cs : List Cause) → Clear cs → refusal cs ≡ None
+accepts [] h = refl
+accepts (c ∷ cs) h = cond-false (c .holds) (Some (c .tells)) (refusal cs) (h .0) ∙ accepts cs (h .1)
+
+pub clear-rest : (cs ds : List Cause) → Clear (cs ++ ds) → Clear cs × Clear ds
+clear-rest [] ds h = (tt, h)
+clear-rest (c ∷ cs) ds h = let r = clear-rest cs ds (h .1) in ((h .0, r .0), r .1)
+
+pub clear-append : (cs ds : List Cause) → Clear cs → Clear ds → Clear (cs ++ ds)
+clear-append [] ds h i = i
+clear-append (c ∷ cs) ds h i = (h .0, clear-append cs ds (h .1) i)
+
+pub word-clear : (r : Option Told) → r ≡ None → Clear (word-cause r)
+word-clear None e = tt
+word-clear (Some v) e = absurd (true≢false (passed true v None e .0))
+
+pub clear-word : (r : Option Told) → Clear (word-cause r) → r ≡ None
+clear-word None h = refl
+clear-word (Some v) h = absurd (true≢false (h .0))

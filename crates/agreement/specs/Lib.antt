@@ -1,0 +1,9 @@
+pub mod Meanings
+pub mod Carrying
+pub mod Votes
+pub mod Flights
+pub mod Runs
+pub mod Agreement
+pub mod Lives
+pub mod Possible
+pub mod SplitSends
