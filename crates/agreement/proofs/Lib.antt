@@ -14,6 +14,7 @@ pub mod OneContent
 pub mod AtRest
 pub mod Sums
 pub mod RestComes
+pub mod RestReached
 pub mod Agrees
 pub mod Slips
 pub mod IdealCarrier

@@ -3,7 +3,7 @@
 --   Got          the word w of o's order number k was delivered to p, or booked by it
 --   OneContent   (a) for one origin and number, whatever p and q got is one word; where the origin is not astray, it ordered that word
 --   AtRest       (b) p has a delivery for an origin and a number where q has one, and every order of a craft not astray was delivered to each
---   RestComes    (c) of any carries that follow, with no other call between, at most as many are accepted as the flight's toil says when they begin
+--   RestComes    (c) the flight's toil bounds how many of the carries that follow, with no other call between, are accepted
 --   Agrees       all three: (a) always, (b) when nothing waits, (c) always
 --   Agreement    after every list of calls from an opening, over every carrier that keeps the laws, for matter of any kinds
 use mathlib.Core.Path.{_≡_}

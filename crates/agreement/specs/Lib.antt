@@ -4,6 +4,7 @@ pub mod Votes
 pub mod Flights
 pub mod Runs
 pub mod Agreement
+pub mod Rest
 pub mod Lives
 pub mod Possible
 pub mod SplitSends

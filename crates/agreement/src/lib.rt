@@ -7,6 +7,7 @@ ghost use Rattle.agreement.specs.Agreement.{Agreement};
 ghost use Rattle.agreement.specs.Lives.{AgreementOver};
 ghost use Rattle.agreement.specs.Meanings.{Meaning, Lawful};
 ghost use Rattle.agreement.specs.Possible.{Possible};
+ghost use Rattle.agreement.specs.Rest.{RestReached};
 ghost use Rattle.agreement.specs.SplitSends.{SplitHeard};
 
 // Two craft that are not astray agree, after every list of calls, over every carrier that keeps the two laws:
@@ -19,6 +20,15 @@ pub fn two_craft_agree() -> u8
     ensures agreement { λ _. ⌜ Agreement ⌝ }
 {
     3
+}
+
+// Rest is reached: where index 0 is carried more often than the flight's toil says, nothing waits then, or fewer than three are spare.
+// So no carry is refused without a cause. The answer is the index.
+pub fn rest_is_reached() -> usize
+    ensures answer { λ r. ⌜ r ≡ 0 ⌝ }
+    ensures rest { λ _. ⌜ RestReached ⌝ }
+{
+    0
 }
 
 // A type of carriers that keep the laws: what its values mean; what opening one gives and every call keeps; and that this implies the laws.

@@ -4,7 +4,7 @@
 --   Start          a start takes a chart, with nothing waiting
 --   unlinked       the set is empty, or has a craft to which no link leads; no craft has a link to itself
 --   put-causes     1, 9, and 8 at spare 0
---   Put            a put appends its entries, and lowers the spare by at most 1
+--   Put            a put appends its entries; the spare falls by 1 at most
 --   take-causes    7: the index is not below the count of what waits
 --   Take           a take removes the entry at an index and answers it; the others keep their order, and the spare does not fall
 --   EntryAt        the entry at an index, if one waits there
