@@ -91,7 +91,7 @@ module _ (es : List Event) (s : State) (h : Kept es s) (law : Lawful (s .carrier
   pub together-delivered : (p q w : ℕ) → Honest m p → Honest m q → tally p .delivered ≡ Some w → tally q .delivered ≡ Some w
   together-delivered p q w hp hq e = all-delivered w (delivered-ready p w hp e) q hq
 
-  -- a true order is echoed by all
+  -- the order of a craft that is not astray is echoed by all
   all-echo : (w : ℕ) → Honest m o → m .heard o o (note Send o k w) ≡ true → (r : ℕ) → Honest m r → m .heard r r (note Echo o k w) ≡ true
   all-echo w ho e r hr =
       let own = some-present (tally r .echo r) (entry es s h law o k r .echoed w (law .nothing-lost rest r o (note Send o k w) hr ho e)) in
@@ -112,9 +112,9 @@ module _ (es : List Event) (s : State) (h : Kept es s) (law : Lawful (s .carrier
 
 pub at-rest : (es : List Event) (s : State) → Kept es s → Lawful (s .carrier) → s .carrier .waiting ≡ 0 → AtRest es (s .carrier)
 at-rest es s h law rest =
-    let true-of = not-astray-honest es s h in
+    let honest-of = not-astray-honest es s h in
     record {
       together = λ p q o k hp hq x.
-          (x .0, h .deliveries .tells q o k (x .0) (together-delivered es s h law rest o k p q (x .0) (true-of p hp) (true-of q hq) (h .deliveries .told p o k (x .0) (x .1))));
-      arrives = λ p o k w hp ho x. h .deliveries .tells p o k w (order-delivered es s h law rest o k w (true-of o ho) (h .sends .sent o k w x) p (true-of p hp));
+          (x .0, h .deliveries .tells q o k (x .0) (together-delivered es s h law rest o k p q (x .0) (honest-of p hp) (honest-of q hq) (h .deliveries .told p o k (x .0) (x .1))));
+      arrives = λ p o k w hp ho x. h .deliveries .tells p o k w (order-delivered es s h law rest o k w (honest-of o ho) (h .sends .sent o k w x) p (honest-of p hp));
     }

@@ -24,7 +24,7 @@ use lib.Dec.{eqb}
 use lib.ListN.{length, length-append}
 use Rattle.std.proofs.shelf.Tests.{cases-bool, or-left, or-from, and-parts, eqb-true, both-ways}
 use Rattle.sets.specs.Sets.{bit, In, only, adding}
-use Rattle.sets.proofs.Bits.{bit-le, bit-union, bit-only}
+use Rattle.sets.proofs.Members.{has-in, within-in, union-within-left, adding-has}
 use Rattle.frames.specs.declared.notes.Note.{Note}
 use Rattle.frames.specs.Notes.{sound, same-note}
 use Rattle.agreement.specs.Meanings.{Meaning, Lawful, Fresh}
@@ -303,11 +303,11 @@ meddled-net x c to t hc ht ne snd = record {
   queue = x .queue ++ triple to c t ∷ [];
   astray = adding c (x .astray);
   heard = x .heard;
-  true-said = λ l a u loyal e. x .true-said l a u (omega (arith, loyal, bit-union (x .astray) (only c) a)) e;
+  true-said = λ l a u loyal e. x .true-said l a u (omega (arith, loyal, union-within-left (x .astray) (only c) a)) e;
   coming = λ l a u hl e. ⊎-elim inl (λ i. inr (waits-front (triple l a u) (x .queue) (triple to c t ∷ []) i)) (x .coming l a u hl e);
   good = λ l a u w. ⊎-elim
       (λ (i : Waits (triple l a u) (x .queue)).
-      good-still (λ j. j) (λ j. omega (arith, j, bit-union (x .astray) (only c) a, bit-le (only c) a)) (x .good l a u i))
+      good-still (λ j. j) (within-in (x .astray) (adding c (x .astray)) a (union-within-left (x .astray) (only c))) (x .good l a u i))
       (⊎-elim
       (λ (i : triple to c t ≡ triple l a u).
       let l-is : to ≡ l = ap (λ (z : Triple). z .listener) i in
@@ -318,7 +318,7 @@ meddled-net x c to t hc ht ne snd = record {
         author = omega (arith, hc, a-is);
         sound = (λ z. sound 4 (sym a-is z) (sym u-is z)) ∙ snd;
         origin = inr (
-          omega (arith, bit-union (x .astray) (only c) a, bit-le (x .astray) a, bit-only c, ap (λ (z : ℕ). bit (only c) z) a-is),
+          subst (λ (z : ℕ). In z (adding c (x .astray))) a-is (has-in (adding c (x .astray)) c (adding-has c (x .astray))),
           λ q. ne (l-is ∙ q ∙ sym a-is),
         );
       })

@@ -15,9 +15,9 @@ use native.Mathlib.Omega.{arith}
 use lib.Dec.{eqb, leb, ltb}
 use Rattle.std.specs.declared.option.Option.{Option}
 use Rattle.std.specs.declared.option.Option.the-variants.{Some}
-use Rattle.std.proofs.shelf.Tests.{cases-eq, eqb-true, and-parts, or-cases, not-true, both-ways, true≢false}
-use Rattle.sets.specs.Sets.{bit, count, adding, only}
-use Rattle.sets.proofs.Bits.{bit-union, bit-only-other}
+use Rattle.std.proofs.shelf.Tests.{eqb-true, and-parts, or-cases, not-true, both-ways, true≢false}
+use Rattle.sets.specs.Sets.{bit, In, count, adding, only}
+use Rattle.sets.proofs.Members.{union-within-left, union-in, only-in}
 use Rattle.sets.proofs.Counts.{adding-most}
 use Rattle.matter.specs.Layouts.{Kind}
 use Rattle.frames.specs.declared.notes.Step.the-variants.{Send, Echo}
@@ -38,7 +38,7 @@ pub record Kept (es : List Event) (s : State) : Type 0 where
   pub deliveries : DeliveriesKept es s
   pub sends : SendsKept es s
   -- the craft astray are those that meddled
-  pub astray : (i : ℕ) → bit (s .carrier .astray) i ≡ 1 → Astray es i
+  pub astray : (i : ℕ) → In i (s .carrier .astray) → Astray es i
 
 -- ---- calls by which nothing is heard
 
@@ -47,7 +47,7 @@ module _ (es : List Event) (e : Event) (s s′ : State) (fx : Fixed (s .carrier)
     (votes : SameVotes s s′) (orders : SameOrders s s′)
     (no-tells : (p o k w : ℕ) → Tells e p o k w → ⊥) (books : (p o k w : ℕ) → Books e p o k w → s .ledger .votes p o k .delivered ≡ Some w)
     (no-orders : (o k w : ℕ) → Orders e o k w → ⊥)
-    (misled : (i : ℕ) → bit (s′ .carrier .astray) i ≡ 1 → Misleads e i ⊎ (bit (s .carrier .astray) i ≡ 1)) where
+    (misled : (i : ℕ) → In i (s′ .carrier .astray) → Misleads e i ⊎ In i (s .carrier .astray)) where
   idle : Kept es s → Kept (e ∷ es) s′
   idle h = record {
     votes = votes-idle s s′ fx silent votes few loyal (h .votes);
@@ -77,10 +77,10 @@ same-orders s s′ q c k = ap (λ (b : Ledger). b .ordered c k) q
 -- ---- a meddler is one of at most f
 
 loyal-before : (a c i : ℕ) → bit (adding c a) i ≡ 0 → bit a i ≡ 0
-loyal-before a c i e = omega (arith, bit-union a (only c) i, e)
+loyal-before a c i e = omega (arith, union-within-left a (only c) i, e)
 
-misled-by : (a c i : ℕ) → bit (adding c a) i ≡ 1 → (c ≡ i) ⊎ (bit a i ≡ 1)
-misled-by a c i e = ⊎-elim inl (λ (ne : c ≡ i → ⊥). inr (omega (arith, bit-union a (only c) i, bit-only-other c i ne, e))) (cases-eq c i)
+misled-by : (a c i : ℕ) → In i (adding c a) → (c ≡ i) ⊎ In i a
+misled-by a c i e = ⊎-elim inr (λ h. inl (only-in c i h)) (union-in a (only c) i e)
 
 -- ---- calls by which a note is heard
 

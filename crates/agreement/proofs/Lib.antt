@@ -1,4 +1,5 @@
 pub mod Causes
+pub mod RefusedExactly
 pub mod Room
 pub mod FirstVotes
 pub mod Turns

@@ -12,16 +12,13 @@ use mathlib.Core.Path.{_≡_}
 use mathlib.Core.Bool.{true}
 use mathlib.Core.List.{List}
 use mathlib.Core.Logic.{_⊎_, ⊎-elim}
-use Prim.Native.Nat.{ℕ, _<_}
+use Prim.Native.Nat.{ℕ}
 use native.Mathlib.Omega.{arith}
 use Rattle.std.specs.declared.option.Option.the-variants.{Some}
-use Rattle.std.proofs.shelf.Tests.{cases-lt}
-use Rattle.sets.specs.Sets.{bit}
 use Rattle.sets.proofs.Counts.{one-outside}
-use Rattle.sets.proofs.Bits.{bit-le}
 use Rattle.sets.proofs.Passing.{one-passes-outside}
 use Rattle.sets.proofs.Quorums.{quorum-witness}
-use Rattle.sets.proofs.Members.{in-below}
+use Rattle.sets.proofs.Members.{in-below, not-in}
 use Rattle.frames.specs.declared.notes.Step.the-variants.{Send, Echo, Ready}
 use Rattle.frames.specs.Notes.{note}
 use Rattle.agreement.specs.Meanings.{Meaning, Honest, Lawful}
@@ -90,13 +87,13 @@ module _ (es : List Event) (s : State) (h : Kept es s) (law : Lawful (s .carrier
 pub not-astray-honest : (es : List Event) (s : State) → Kept es s → (i : ℕ) → NotAstray es (s .carrier) i → Honest (s .carrier) i
 not-astray-honest es s h i l = record {
   below = l .below;
-  loyal = ⊎-elim (λ (x : 0 < bit (s .carrier .astray) i). absurd (l .never (h .astray i (omega (arith, bit-le (s .carrier .astray) i))))) (λ x. omega arith) (cases-lt 0 (bit (s .carrier .astray) i));
+  loyal = not-in (s .carrier .astray) i (λ e. l .never (h .astray i e));
 }
 
 pub one-content : (es : List Event) (s : State) → Kept es s → Lawful (s .carrier) → OneContent es (s .carrier)
 one-content es s h law =
-    let true-of = not-astray-honest es s h in
+    let honest-of = not-astray-honest es s h in
     record {
-      one = λ p q o k w v hp hq x y. one-delivered es s h law o k p q w v (true-of p hp) (true-of q hq) (got es s h law o k p w x) (got es s h law o k q v y);
-      right = λ p o k w hp ho x. h .sends .ordered o k w (right-delivered es s h law o k p w (true-of p hp) (true-of o ho) (got es s h law o k p w x));
+      one = λ p q o k w v hp hq x y. one-delivered es s h law o k p q w v (honest-of p hp) (honest-of q hq) (got es s h law o k p w x) (got es s h law o k q v y);
+      right = λ p o k w hp ho x. h .sends .ordered o k w (right-delivered es s h law o k p w (honest-of p hp) (honest-of o ho) (got es s h law o k p w x));
     }

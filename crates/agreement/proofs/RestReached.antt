@@ -3,32 +3,27 @@
 --   not-halted     an accepted one has none
 --   one-carry      a carry of index 0 is accepted by a flight that has not halted, or leaves one that has
 --   all-or-halt    of such carries all are accepted, or the flight has halted
-use mathlib.Core.Path.{_≡_, refl, sym, ap, _∙_, subst}
-use mathlib.Core.Bool.{true, false}
+use mathlib.Core.Path.{_≡_, refl, sym, _∙_, subst}
 use mathlib.Core.List.{List, [], _∷_}
 use mathlib.Core.Logic.{_⊎_, inl, inr, ⊎-elim}
-use Prim.Native.Nat.{ℕ, _+_, _≤_, _<_}
+use Prim.Native.Nat.{ℕ, _≤_, _<_}
 use native.Mathlib.Omega.{arith}
-use lib.Dec.{leb, ltb}
 use lib.ListN.{length}
-use Rattle.std.specs.declared.option.Option.the-variants.{Some, None}
+use Rattle.std.specs.declared.option.Option.the-variants.{Some}
 use Rattle.std.proofs.shelf.Tests.{cases-lt, lt-leb, leb-false, le-ltb, ltb-false}
 use Rattle.refusals.specs.Refusals.{Told, refusal}
 use Rattle.matter.specs.Layouts.{Kind}
 use Rattle.agreement.specs.Flights.{State, Event, ordered, moved, heard, meddled, collected, booked, returned, refused, order, carry, meddle, collect, book, put-back, causes, Accepted, Answered, flight-toil}
 use Rattle.agreement.specs.Runs.{Run, still, then, Carry, Carries, accepted, accepted-in}
 use Rattle.agreement.specs.Rest.{OldestCarried, OldestCarries, Halted, RestReached}
-use Rattle.agreement.proofs.Causes.{clear, accepts}
+use Rattle.agreement.proofs.Causes.{none≢some, clear, accepts}
 use Rattle.agreement.proofs.RestComes.{rest-comes}
-
-none≢told : {v : Told} → None ≡ Some v → ⊥
-none≢told {v} e = let z : _≡_ {A = ℕ} 0 1 = cc in omega arith
 
 halted-by : (ks : List Kind) (s : State) (v : Told) → refusal (causes ks s (carry 0)) ≡ Some v → Halted (s .carrier)
 halted-by ks s v e = ⊎-elim
     (λ (w : 0 < s .carrier .waiting). ⊎-elim
     (λ (r : s .carrier .spare < 3). inr r)
-    (λ r. absurd (none≢told (sym (accepts (causes ks s (carry 0)) (lt-leb (s .carrier .waiting) 0 w, (le-ltb (s .carrier .spare) 3 r, tt))) ∙ e)))
+    (λ r. absurd (none≢some (sym (accepts (causes ks s (carry 0)) (lt-leb (s .carrier .waiting) 0 w, (le-ltb (s .carrier .spare) 3 r, tt))) ∙ e)))
     (cases-lt (s .carrier .spare) 3))
     (λ w. inl (omega arith))
     (cases-lt 0 (s .carrier .waiting))

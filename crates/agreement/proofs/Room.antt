@@ -9,17 +9,20 @@
 --   carry-passed     an accepted carry: the carrier accepts it, and three are spare
 --   meddle-passed    an accepted meddle: the carrier accepts it
 --   meddle-few       and fewer than f others are astray
+--   handed-on        where three are spare, what the carrier refuses the flight refuses by the same
+--   too-tight        where the carrier has no cause but its 8 and fewer than three are spare, the flight refuses by 8
 --   collect-passed   an accepted collect: two craft, a number, and something to collect
-use mathlib.Core.Path.{_≡_, refl, ap, _∙_}
+use mathlib.Core.Path.{_≡_, refl, sym, ap, _∙_}
 use mathlib.Core.Bool.{true, false, not}
 use mathlib.Core.List.{List, [], _∷_, _++_}
+use mathlib.Core.Logic.{⊎-elim}
 use Prim.Native.Nat.{ℕ, _+_, _≤_, _<_}
 use native.Mathlib.Omega.{arith}
 use lib.Dec.{eqb, leb, ltb}
-use Rattle.std.specs.declared.option.Option.the-variants.{None}
-use Rattle.std.proofs.shelf.Tests.{and-from, and-parts, or-left, or-right, eq-eqb, ne-eqb, lt-leb, leb-false, ltb-false, lt-ltb, le-leb, not-from-true, not-false}
+use Rattle.std.specs.declared.option.Option.the-variants.{Some, None}
+use Rattle.std.proofs.shelf.Tests.{cond-true, and-from, and-parts, or-left, or-right, eq-eqb, ne-eqb, lt-leb, leb-false, ltb-false, lt-ltb, le-leb, not-from-true, not-false}
 use Rattle.sets.specs.Sets.{others}
-use Rattle.refusals.specs.Refusals.{cause, refusal}
+use Rattle.refusals.specs.Refusals.{Told, Cause, cause, refusal}
 use Rattle.matter.specs.Layouts.{Kind, word-refusal}
 use Rattle.frames.specs.declared.notes.Step.{Step}
 use Rattle.frames.specs.declared.notes.Step.the-variants.{Send}
@@ -29,7 +32,7 @@ use Rattle.frames.specs.Notes.{is-send, sound, last-number, note}
 use Rattle.agreement.specs.Meanings.{Meaning}
 use Rattle.agreement.specs.Carrying.{Said, Hears, spent, say-causes, carry-causes, meddle-causes}
 use Rattle.agreement.specs.Flights.{State, order, carry, meddle, collect, word-cause, tight, collectable, causes, Accepted}
-use Rattle.agreement.proofs.Causes.{clear, accepts, clear-rest, clear-word}
+use Rattle.agreement.proofs.Causes.{none≢some, clear, accepts, clear-rest, clear-word, refused-front, refused-back, refused-parts}
 
 pub say-accepted : (m : Meaning) (a : ℕ) (t : Note) → a < m .n → sound (m .n) a t ≡ true → 0 < m .spare → refusal (say-causes m a t ++ spent m) ≡ None
 say-accepted m a t h e r =
@@ -91,6 +94,16 @@ meddle-passed ks s c to u e =
 
 pub meddle-few : (ks : List Kind) (s : State) (c to : ℕ) (u : Frame) → Accepted ks s (meddle c to u) → others c (s .carrier .astray) < s .carrier .f
 meddle-few ks s c to u e = leb-false (s .carrier .f) (others c (s .carrier .astray)) (clear (causes ks s (meddle c to u)) e .1 .1 .1 .0)
+
+pub handed-on : (cs : List Cause) (s : State) (v : Told) → 3 ≤ s .carrier .spare → refusal (cs ++ spent (s .carrier)) ≡ Some v → refusal (cs ++ tight s) ≡ Some v
+handed-on cs s v room e = ⊎-elim
+    (λ (h : refusal cs ≡ Some v). refused-front cs (tight s) v h)
+    (λ h. absurd (none≢some (sym (accepts (spent (s .carrier)) (ne-eqb (s .carrier .spare) 0 (λ q. omega arith), tt)) ∙ h .1)))
+    (refused-parts cs (spent (s .carrier)) v e)
+
+pub too-tight : (cs : List Cause) (s : State) → refusal cs ≡ None → s .carrier .spare < 3
+    → refusal (cs ++ tight s) ≡ Some record { layer = 4; number = 8; values = s .carrier .spare ∷ [] }
+too-tight cs s none few = refused-back cs (tight s) none ∙ cond-true (ltb (s .carrier .spare) 3) _ _ (lt-ltb (s .carrier .spare) 3 few)
 
 pub collect-passed : (ks : List Kind) (s : State) (c o k : ℕ) → Accepted ks s (collect c o k)
     → (c < s .carrier .n) × (o < s .carrier .n) × (k ≤ last-number) × (collectable (s .ledger) c o k ≡ true)

@@ -4,7 +4,7 @@
 --                  on the first Send of an order, among four craft, no Ready is due and nothing is delivered
 --   echo-said      a turn that echoes and does not ready says one note
 --   heard-alone    the step of a carry that lets l hear the first Send of an order
-use mathlib.Core.Path.{_≡_, refl, sym, ap, _∙_}
+use mathlib.Core.Path.{_≡_, refl, sym, ap, _∙_, subst}
 use mathlib.Core.Bool.{Bool, true, false, cond, _&&_, _||_}
 use mathlib.Core.List.{List, [], _∷_, _++_}
 use mathlib.Core.Logic.{⊎-elim}
@@ -15,7 +15,7 @@ use lib.ListN.{length}
 use Rattle.std.specs.declared.option.Option.{Option}
 use Rattle.std.specs.declared.option.Option.the-variants.{None}
 use Rattle.std.proofs.shelf.Tests.{cond-false, and-left, or-left, eq-eqb, lt-leb, le-ltb, not-from-true, true≢false}
-use Rattle.sets.specs.Sets.{bit, only, others, passing}
+use Rattle.sets.specs.Sets.{In, only, others, passing}
 use Rattle.sets.proofs.Bits.{bit-only}
 use Rattle.sets.proofs.Passing.{passing-in}
 use Rattle.sets.proofs.Counts.{count-zero, count-only, count-by-members}
@@ -45,7 +45,7 @@ lone-backer n p w =
       count-only p,
       count-by-members (passing n (λ a. is (F a) w)) (only p) (λ i h.
           ⊎-elim
-          (λ (q : (p ≡ i) × (w ≡ w)). ap (λ (z : ℕ). bit (only p) z) (sym (q .0)) ∙ bit-only p)
+          (λ (q : (p ≡ i) × (w ≡ w)). subst (λ (z : ℕ). In z (only p)) (q .0) (bit-only p))
           (λ q. let z : _≡_ {A = ℕ} 0 1 = cc in absurd (omega arith))
           (first-cases p w (λ a. None) i w (is-true (F i) w (passing-in n (λ a. is (F a) w) i h .1)))),
     )

@@ -8,6 +8,7 @@
 --   word-cause    why a word is refused, as a cause that holds where there is a refusal
 --   tight         fewer than three are spare (8)
 --   collectable   delivered, no slip out, not booked
+--   line-length   the bytes of a booking line, 28
 --   causes        why a call is refused, of matter of the kinds ks: the causes in the order in which they are tested
 --                   order      no craft (1), no number (5), no word of these kinds (as the word's reader tells it), ordered before (6), tight (8)
 --                   carry      what the carrier refuses but its 8, tight (8)
@@ -19,6 +20,7 @@
 --   Saying        a craft says some notes, one after the other
 --   here          whether two triples of craft, origin and number are the same
 --   turn          what l does on hearing the note t of a
+--   telling       what the answer tells l, where it delivers
 --   Voted         l votes on the note t of a, which the carrier, now m, has let it hear; d is what the answer tells
 --   SameVotes, SameOrders, SameOut, SameBooked, SameSlips
 --                 these parts of the ledger are as they were
@@ -95,7 +97,6 @@ tight s = cause 4 8 (s .carrier .spare ∷ []) (ltb (s .carrier .spare) 3) ∷ [
 abbrev pub collectable : Ledger → ℕ → ℕ → ℕ → Bool
 collectable b c o k = present (b .votes c o k .delivered) && (not (b .out c o k) && not (b .booked c o k))
 
--- the bytes of a booking line
 abbrev pub line-length : ℕ
 line-length = 28
 
@@ -130,7 +131,6 @@ here c o k c′ o′ k′ = eqb c c′ && (eqb o o′ && eqb k k′)
 abbrev pub turn : State → ℕ → ℕ → Note → Turn
 turn s l a t = hear (s .carrier .n) (s .carrier .f) l a (t .content) (s .ledger .votes l (t .origin) (t .number)) (t .step)
 
--- what the answer tells l where it delivers
 abbrev pub telling : Bool → ℕ → Note → Option Delivery
 telling b l t = cond b (Some (record { craft = l; origin = t .origin; number = t .number; word = t .content })) None
 

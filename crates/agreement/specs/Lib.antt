@@ -2,6 +2,7 @@ pub mod Meanings
 pub mod Carrying
 pub mod Votes
 pub mod Flights
+pub mod RefusedExactly
 pub mod Runs
 pub mod Agreement
 pub mod Rest

@@ -2,7 +2,8 @@
 --   OldestCarried   this event is a carry of index 0, accepted or refused
 --   OldestCarries   a list of such carries alone
 --   Halted          nothing waits, or fewer than three are spare
---   RestReached     after more such carries than the flight's toil says when they begin, the flight has halted: no carry is refused without a cause
+--   RestReached     after more such carries than the flight's toil says when they begin, the flight has halted; so rest is not put off by carries that are
+--                   refused without a cause
 use mathlib.Core.Path.{_≡_}
 use mathlib.Core.List.{List, [], _∷_}
 use mathlib.Core.Logic.{_⊎_}

@@ -7,6 +7,7 @@ ghost use Rattle.agreement.specs.Agreement.{Agreement};
 ghost use Rattle.agreement.specs.Lives.{AgreementOver};
 ghost use Rattle.agreement.specs.Meanings.{Meaning, Lawful};
 ghost use Rattle.agreement.specs.Possible.{Possible};
+ghost use Rattle.agreement.specs.RefusedExactly.{RefusedExactly};
 ghost use Rattle.agreement.specs.Rest.{RestReached};
 ghost use Rattle.agreement.specs.SplitSends.{SplitHeard};
 
@@ -22,8 +23,17 @@ pub fn two_craft_agree() -> u8
     3
 }
 
+// A call is refused exactly where one of its causes holds, by the first of them, and changes nothing then.
+// The answer is how many calls there are.
+pub fn refusals_are_exact() -> u8
+    ensures answer { λ r. ⌜ r ≡ 6 ⌝ }
+    ensures exact { λ _. ⌜ RefusedExactly ⌝ }
+{
+    6
+}
+
 // Rest is reached: where index 0 is carried more often than the flight's toil says, nothing waits then, or fewer than three are spare.
-// So no carry is refused without a cause. The answer is the index.
+// So a flight cannot put rest off by refusing carries that it has no cause to refuse. The answer is the index.
 pub fn rest_is_reached() -> usize
     ensures answer { λ r. ⌜ r ≡ 0 ⌝ }
     ensures rest { λ _. ⌜ RestReached ⌝ }

@@ -1,0 +1,11 @@
+pub mod WalkLaws
+pub mod ReachLaws
+pub mod PairLaws
+pub mod CutLaws
+pub mod SizeLaws
+pub mod RelayLaws
+pub mod DirectLaws
+pub mod PassedLaws
+pub mod SameRows
+pub mod OpenLaws
+pub mod WorkedCharts

@@ -1,0 +1,9 @@
+pub mod Walks
+pub mod Reach
+pub mod Pairs
+pub mod Cuts
+pub mod Complete
+pub mod Laws
+pub mod Causes
+pub mod Tested
+pub mod Examples
