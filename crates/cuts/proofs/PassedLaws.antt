@@ -1,6 +1,6 @@
 -- What a passed chart gives. Assumes nothing.
 --   passed-walks      a walk from each craft to each other, outside any set of at most 2f others
---   complete-passes   a complete chart passes
+--   complete-passes   a complete chart passes, whatever f is
 use mathlib.Core.Path.{_≡_, subst}
 use mathlib.Core.List.{List}
 use mathlib.Core.Logic.{⊎-elim}
@@ -16,7 +16,8 @@ use Rattle.charts.specs.Rows.{Bounded, Mutual}
 use Rattle.cuts.specs.Walks.{Out, Walk, here, Joined}
 use Rattle.cuts.specs.Reach.{reached}
 use Rattle.cuts.specs.Cuts.{Passed, all-but}
-use Rattle.cuts.specs.Laws.{PassedWalks, CompletePasses}
+use Rattle.cuts.specs.Complete.{Complete}
+use Rattle.cuts.specs.Laws.{PassedWalks}
 use Rattle.cuts.proofs.WalkLaws.{walk-back, walk-outside}
 use Rattle.cuts.proofs.ReachLaws.{decides-reached}
 use Rattle.cuts.proofs.CutLaws.{in-all-but, cut-unlinked}
@@ -50,5 +51,5 @@ module _ (n f : ℕ) (rows : List ℕ) (b : Bounded n rows) (m : Mutual rows) (p
 pub passed-walks : PassedWalks
 passed-walks n f rows b m passed = passed-walk n f rows b m passed
 
-pub complete-passes : CompletePasses
+pub complete-passes : (n f : ℕ) (rows : List ℕ) → Complete n rows → Passed n f rows
 complete-passes n f rows all p s c = cut-unlinked n rows (2 * f) (p .low) (p .high) s c (all p)

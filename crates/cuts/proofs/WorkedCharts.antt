@@ -1,5 +1,5 @@
 -- The worked examples, by computing. Assumes nothing.
-use mathlib.Core.Path.{_≡_, refl}
+use mathlib.Core.Path.{_≡_, refl, _∙_}
 use mathlib.Core.List.{List}
 use Prim.Native.Nat.{ℕ, _*_}
 use lib.Count.{ones}
@@ -10,6 +10,7 @@ use Rattle.refusals.specs.Refusals.{Told, refusal}
 use Rattle.charts.specs.InTurn.{in-turn}
 use Rattle.charts.specs.Rows.{Bounded, answered}
 use Rattle.charts.specs.Causes.{chart-causes}
+use Rattle.charts.proofs.TurnLaws.{append-later}
 use Rattle.charts.proofs.RowLaws.{sound-bounded}
 use Rattle.charts.proofs.CauseLaws.{chart-passed}
 use Rattle.cuts.specs.Reach.{around, grown, rounds, reached}
@@ -45,16 +46,13 @@ ring-thin = refl
 
 -- both tests, one after the other
 pub four-refused : refusal (open-relay-causes four 1) ≡ Some (thin-told 0 1 12)
-unfolding in-turn answered around grown rounds reached all-but ones
-four-refused = refl
+four-refused = append-later (chart-causes four 1) (in-pairs (thin-causes 4 four 2) 4 4) four-charted ∙ four-thin
 
 pub five-accepted : refusal (open-relay-causes five 1) ≡ None
-unfolding in-turn answered around grown rounds reached all-but ones
-five-accepted = refl
+five-accepted = append-later (chart-causes five 1) (in-pairs (thin-causes 5 five 2) 5 5) five-charted ∙ five-thin
 
 pub ring-refused : refusal (open-relay-causes ring 1) ≡ Some (thin-told 0 2 10)
-unfolding in-turn answered around grown rounds reached all-but ones
-ring-refused = refl
+ring-refused = append-later (chart-causes ring 1) (in-pairs (thin-causes 5 ring 2) 5 5) ring-charted ∙ ring-thin
 
 -- rows that are not refused name craft below n alone
 bounded : (rows : List ℕ) → refusal (chart-causes rows 1) ≡ None → Bounded (length rows) rows

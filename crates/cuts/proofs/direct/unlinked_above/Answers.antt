@@ -16,7 +16,7 @@ returns-then-not-linked c =
     let rows = c .args .chart .now .rows in
     let u = c .args .u in
     let v = c .loop-v .v in
-    above-at (unlinked-cause rows u) u (c .args .chart .now .n) v (thin-told u v 0) (omega arith) (c .loop-v-test .taken) (c .loop-v .inv)
+    above-at (unlinked-cause rows u) u (c .args .chart .now .n) v (thin-told u v 0) (omega arith) (omega arith) (c .loop-v .inv)
     (unlinked-refused rows u v (sym (c .if-not-linked .ensures tt .answer)))
 
 pub loop-v-again : need.loop-v-again
