@@ -1,0 +1,6 @@
+pub mod Hearing
+pub mod Meshes
+pub mod Accepted
+pub mod Straight
+pub mod Steps
+pub mod Opening

@@ -1,0 +1,4 @@
+pub mod Judging
+pub mod Calls
+pub mod Directs
+pub mod Settling
