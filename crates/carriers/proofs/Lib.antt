@@ -1,4 +1,3 @@
-pub mod Hearing
 pub mod Meshes
 pub mod Accepted
 pub mod Straight

@@ -18,8 +18,8 @@ use Rattle.shelves.specs.declared.kinds.Row.{Row}
 use Rattle.shelves.specs.declared.kinds.Table.{Table}
 use Rattle.shelves.specs.Lengths.{shelf-length}
 use Rattle.shelves.specs.Rows.{heard-in}
-use Rattle.shelves.specs.Shelves.{rows-at, fewest}
-use Rattle.carriers.specs.Directs.{heard-on, Flows, Opened}
+use Rattle.shelves.specs.Shelves.{rows-at, fewest, heard-on}
+use Rattle.carriers.specs.Directs.{Flows, Opened}
 
 -- nothing was heard, and nothing waits
 fresh-flows : (n astray : ℕ) (h : ℕ → ℕ → Note → Bool) → ((l a : ℕ) (x : Note) → h l a x ≡ false) → Flows n astray h []

@@ -36,14 +36,14 @@ use Rattle.links.specs.Meanings.{entry-to, sent}
 use Rattle.links.specs.Calls.{Appended, Taken, put-causes, take-causes}
 use Rattle.links.proofs.Judged.{accepts}
 use Rattle.shelves.specs.declared.kinds.Table.{Table}
-use Rattle.shelves.specs.Shelves.{fewest, HeldAt}
+use Rattle.shelves.specs.Shelves.{fewest, HeldAt, heard-on}
 use Rattle.agreement.specs.Meanings.{Meaning, Lawful}
 use Rattle.agreement.specs.Carrying.{Fixed, Said, Quiet, Hears, Meddled}
 use Rattle.carriers.specs.declared.heard.Heard.{Heard}
 use Rattle.carriers.specs.declared.direct.Direct.{Direct}
 use Rattle.carriers.specs.Judging.{saying-causes, meddling-causes}
-use Rattle.carriers.specs.Directs.{rows-of-chart, means, heard-on, own-frame, straight, heard-of, hearing, hearing-of, no-entry, Flows, Sound}
-use Rattle.carriers.proofs.Hearing.{heard-held}
+use Rattle.carriers.specs.Directs.{rows-of-chart, means, own-frame, straight, heard-of, hearing, hearing-of, no-entry, Flows, Sound}
+use Rattle.shelves.proofs.Hearing.{heard-held}
 use Rattle.carriers.proofs.Meshes.{Meshed, meshed, not-own, neighbour}
 use Rattle.carriers.proofs.Accepted.{may-say, may-meddle}
 use Rattle.carriers.proofs.Straight.{Straight, is-straight, flows-say, flows-drop, flows-hear, flows-meddle}

@@ -1,10 +1,11 @@
 -- The direct carrier: what it means, what each call does to its shelves and its links, and what ties these to one another. Assumes nothing.
 --   rows-of-chart   each craft's neighbours, one row for each craft
---   heard-on        the listener's shelf says that it heard the author's note
 --   own-frame       the frame by which an author says a note
 --   means           the direct carrier as a carrier; its toil is the count of what waits
 --   straight        the entry came over a link, from the author of its note, with no set, and the note is sound
+--   heard-of        what an entry lets its receiver hear
 --   hearing         what carrying an entry tells, where h was heard: its note, if it is straight and new
+--   no-entry        what stands where no entry waits
 --   hearing-of      what carrying the frame at an index tells
 --   Untouched       link service, shelves, chart and astray are as they were
 --   Spoken          a new note is put to all neighbours of its author, ascending, and stands as the last row of the author's shelf
@@ -46,8 +47,7 @@ use Rattle.links.specs.Meanings.{chart-rows, entry-to}
 use Rattle.links.specs.Meanings as links
 use Rattle.links.specs.Calls.{Started, Appended, Taken, start-causes}
 use Rattle.shelves.specs.declared.kinds.Shelf.{Shelf}
-use Rattle.shelves.specs.Rows.{heard-in}
-use Rattle.shelves.specs.Shelves.{rows-at, fewest, HeldAt}
+use Rattle.shelves.specs.Shelves.{rows-at, heard-on, fewest, HeldAt}
 use Rattle.agreement.specs.Meanings.{Meaning, Fresh}
 use Rattle.carriers.specs.declared.heard.Heard.{Heard}
 use Rattle.carriers.specs.declared.direct.Direct.{Direct}
@@ -56,9 +56,6 @@ use Rattle.carriers.specs.declared.direct.Direct.{Direct}
 
 abbrev pub rows-of-chart : CompleteChart → List ℕ
 rows-of-chart c = chart-rows (c .chart)
-
-abbrev pub heard-on : List Shelf → ℕ → ℕ → Note → Bool
-heard-on at l a x = heard-in (rows-at at l) a x
 
 abbrev pub own-frame : ℕ → Note → Frame
 own-frame a x = record { note = x; author = a; set = 0 }
@@ -88,7 +85,6 @@ heard-of e = record { note = e .frame .note; listener = e .to; author = e .from 
 abbrev pub hearing : ℕ → (ℕ → ℕ → Note → Bool) → Entry → Option Heard
 hearing n h e = cond (straight n e) (cond (h (e .to) (e .from) (e .frame .note)) None (Some (heard-of e))) None
 
--- what a list of entries is read at past its end
 abbrev pub no-entry : Entry
 no-entry = entry-to 0 (own-frame 0 (note Send 0 0 0)) 0
 

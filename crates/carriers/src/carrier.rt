@@ -60,7 +60,7 @@ pub trait Carrier {
     fn waiting(&self) -> usize
         ensures { λ r. ⌜ r ≡ meaning (now (self .entry)) .waiting ⌝ };
 
-    // How many more says or carries there is room for at least.
+    // How many more calls there is room for, at least.
     fn spare(&self) -> usize
         ensures { λ r. ⌜ r ≡ meaning (now (self .entry)) .spare ⌝ };
 

@@ -2,3 +2,4 @@ pub mod Kept
 pub mod Coverings
 pub mod FreeRows
 pub mod TableLaws
+pub mod Hearing

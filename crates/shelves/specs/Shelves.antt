@@ -3,6 +3,7 @@
 --   empty-shelf  a shelf with no row
 --   shelf-at     craft p's shelf
 --   rows-at      what craft p holds
+--   heard-on     the listener's shelf says that it heard the author's note
 --   room         whether the rows that stay leave a place for one more
 --   Held         what holding a set does to one craft's rows: it is held, or there is no room, and nothing changes
 --   fewest       the fewest free rows on a shelf
@@ -21,7 +22,7 @@ use Rattle.frames.specs.declared.notes.Note.{Note}
 use Rattle.shelves.specs.declared.kinds.Row.{Row}
 use Rattle.shelves.specs.declared.kinds.Shelf.{Shelf}
 use Rattle.shelves.specs.Lengths.{shelf-length}
-use Rattle.shelves.specs.Rows.{no-row, stays, holding}
+use Rattle.shelves.specs.Rows.{no-row, stays, holding, heard-in}
 
 abbrev pub rows-of : Shelf → List Row
 rows-of s = take (s .len) (s .rows)
@@ -34,6 +35,9 @@ shelf-at ss p = getD ss p empty-shelf
 
 abbrev pub rows-at : List Shelf → ℕ → List Row
 rows-at ss p = rows-of (shelf-at ss p)
+
+abbrev pub heard-on : List Shelf → ℕ → ℕ → Note → Bool
+heard-on ss l a x = heard-in (rows-at ss l) a x
 
 abbrev pub room : List Row → ℕ → Note → ℕ → Bool
 room rs a x u = ltb (length (kept-by (stays a x u) rs)) shelf-length

@@ -3,10 +3,10 @@ use Prim.Native.Nat.{_<_}
 use native.Mathlib.Omega.{arith}
 use Rattle.std.proofs.shelf.Tests.{both-ways}
 use Rattle.sets.specs.Sets.{labels}
-use Rattle.shelves.specs.Shelves.{fewest}
-use Rattle.carriers.specs.Directs.{means, heard-on}
+use Rattle.shelves.specs.Shelves.{fewest, heard-on}
+use Rattle.carriers.specs.Directs.{means}
 use Rattle.carriers.proofs.Accepted.{judged-carry, may-carry}
-use Rattle.carriers.proofs.Hearing.{held-for-sure}
+use Rattle.shelves.proofs.Hearing.{held-for-sure}
 use Rattle.carriers.proofs.Straight.{is-straight}
 use Rattle.carriers.proofs.Steps.{drop-step, hear-step, told-at, hears-crooked, hears-old, hears-new}
 use Rattle.carriers.proofs.direct_carrier.DirectCarrier.carry.Needs as need

@@ -10,7 +10,7 @@ use Rattle.shelves.specs.Shelves.{fewest}
 use Rattle.links.specs.Calls.{Appended}
 use Rattle.carriers.specs.Directs.{means, own-frame, SaysDirect}
 use Rattle.carriers.proofs.Accepted.{judged-say, may-say}
-use Rattle.carriers.proofs.Hearing.{held-for-sure}
+use Rattle.shelves.proofs.Hearing.{held-for-sure}
 use Rattle.carriers.proofs.Meshes.{row-is}
 use Rattle.carriers.proofs.Straight.{adds-none}
 use Rattle.carriers.proofs.Steps.{never, over, say-puts, say-step}

@@ -1,6 +1,5 @@
 -- What is heard once the empty set is held. Assumes nothing.
 --   other-covered   what is held for another author or note is as covered as it was
---   unkeyed-stays   where nothing is held for the author and the note, every row stays
 --   heard-holding   holding the empty set: exactly this author and note are heard in addition
 --   has-room        with a free row on every shelf there is room
 --   held-for-sure   with a free row on every shelf a set is held
@@ -14,21 +13,21 @@ use native.Mathlib.Omega.{arith}
 use lib.Dec.{eqb}
 use lib.ListN.{length, length-take}
 use Rattle.std.specs.Orderings.{When}
-use Rattle.std.specs.shelf.Lists.{All, kept-by}
-use Rattle.std.proofs.shelf.Tests.{cases-bool, cases-eq, or-right, and-parts, and-left, not-false, not-from-false, eqb-true, eq-eqb, ne-eqb, lt-ltb, cond-true, cond-false}
+use Rattle.std.specs.shelf.Lists.{kept-by}
+use Rattle.std.proofs.shelf.Tests.{cases-bool, cases-eq, or-right, and-parts, and-left, not-false, eqb-true, eq-eqb, ne-eqb, lt-ltb, cond-true, cond-false}
 use Rattle.sets.specs.Sets.{labels, inside}
 use Rattle.sets.proofs.Members.{inside-self}
 use Rattle.frames.specs.declared.notes.Note.{Note}
 use Rattle.frames.specs.Notes.{same-note}
 use Rattle.frames.proofs.NoteLaws.{same-note-eq}
 use Rattle.shelves.specs.declared.kinds.Row.{Row}
 use Rattle.shelves.specs.declared.kinds.Shelf.{Shelf}
+use Rattle.shelves.specs.Lengths.{shelf-length}
 use Rattle.shelves.specs.Rows.{row-of, keyed, covers, covered, stays, holding, heard-in}
-use Rattle.shelves.specs.Shelves.{rows-at, shelf-at, fewest, HeldAt, HoldsAt}
+use Rattle.shelves.specs.Shelves.{rows-at, shelf-at, heard-on, fewest, HeldAt, HoldsAt}
 use Rattle.shelves.proofs.Kept.{kept-le}
 use Rattle.shelves.proofs.Coverings.{covered-push}
 use Rattle.shelves.proofs.FreeRows.{fewest-at}
-use Rattle.carriers.specs.Directs.{heard-on}
 
 or-false : (p : Bool) → (p || false) ≡ p
 or-false true = refl
@@ -64,11 +63,6 @@ module _ (a : ℕ) (x : Note) (u b : ℕ) (y : Note) (v : ℕ) (ne : alike a x b
       ∙ other-covered rs ∙ ap (λ (c : Bool). c || covered rs b y v) (sym (gone r e)))
       (cases-bool (stays a x u r))
 
-pub unkeyed-stays : (a : ℕ) (x : Note) (u : ℕ) (rs : List Row) → All (λ r. keyed a x r ≡ false) rs → kept-by (stays a x u) rs ≡ rs
-unkeyed-stays a x u [] h = refl
-unkeyed-stays a x u (r ∷ rs) h =
-    cond-true (stays a x u r) _ _ (not-from-false _ (and-left (keyed a x r) (inside u (r .held)) (h .0))) ∙ ap (λ (t : List Row). r ∷ t) (unkeyed-stays a x u rs (h .1))
-
 pub heard-holding : (rs : List Row) (a : ℕ) (x : Note) (b : ℕ) (y : Note) → heard-in (holding rs a x 0) b y ≡ (heard-in rs b y || alike a x b y)
 heard-holding rs a x b y =
     let pushed : heard-in (holding rs a x 0) b y ≡ (covered (kept-by (stays a x 0) rs) b y 0 || covers b y 0 (row-of a x 0)) =
@@ -83,14 +77,14 @@ heard-holding rs a x b y =
 -- ---- all shelves
 
 module _ (ss : List Shelf) (p a : ℕ) (x : Note) (u : ℕ) (small : p < labels) (free : 0 < fewest ss) where
-  pub has-room : length (kept-by (stays a x u) (rows-at ss p)) < 120
+  pub has-room : length (kept-by (stays a x u) (rows-at ss p)) < shelf-length
   has-room =
       omega (arith, kept-le (stays a x u) (rows-at ss p), length-take (shelf-at ss p .len) (shelf-at ss p .rows), fewest-at ss labels p small)
 
   pub held-for-sure : (r : Bool) (ss′ : List Shelf) → HoldsAt ss p a x u r ss′ → HeldAt ss p a x u true ss′
   held-for-sure r ss′ h =
       let at : HeldAt ss p a x u r ss′ = subst (λ (b : Bool). When b (HeldAt ss p a x u r ss′) ((r ≡ false) × (ss′ ≡ ss))) (lt-ltb p labels small) h in
-      subst (λ (b : Bool). HeldAt ss p a x u b ss′) (at .here .0 ∙ lt-ltb _ 120 has-room) at
+      subst (λ (b : Bool). HeldAt ss p a x u b ss′) (at .here .0 ∙ lt-ltb _ shelf-length has-room) at
 
 pub heard-held : (ss : List Shelf) (p a : ℕ) (x : Note) (ss′ : List Shelf) → HeldAt ss p a x 0 true ss′
     → (l b : ℕ) (y : Note) → heard-on ss′ l b y ≡ (heard-on ss l b y || (eqb p l && alike a x b y))
