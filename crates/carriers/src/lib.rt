@@ -1,4 +1,5 @@
 // Carriers: they carry notes from craft to craft, over the links of a chart.
+pub mod agreeing;
 pub mod carrier;
 pub mod direct;
 pub mod direct_carrier;
@@ -7,6 +8,7 @@ pub mod heard;
 pub mod judge;
 pub mod settling;
 
+pub use agreeing::agreement_of;
 pub use carrier::Carrier;
 pub use direct::Direct;
 pub use direct_carrier::DirectCarrier;

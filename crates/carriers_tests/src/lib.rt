@@ -1,5 +1,7 @@
 // The direct carrier over both link services.
 #[cfg(test)]
+mod agreeing;
+#[cfg(test)]
 mod astray;
 #[cfg(test)]
 mod both;
