@@ -1,6 +1,7 @@
 use mathlib.Core.Path.{subst}
 use Rattle.std.specs.declared.option.Option.{Option}
 use Rattle.refusals.specs.Refusals.{Told}
+use Rattle.charts.proofs.WorkedSizes.{worked-sizes}
 use Rattle.cuts.specs.Examples.{Reads}
 use Rattle.cuts.proofs.WorkedCharts.{worked-charts, four-refused, five-accepted, ring-refused}
 use Rattle.cuts.proofs.examples.worked_charts.Needs as need
@@ -12,4 +13,5 @@ returns c =
       five = subst (λ (o : Option Told). Reads o (c .relay-fault-five .result)) five-accepted (c .relay-fault-five .ensures);
       ring = subst (λ (o : Option Told). Reads o (c .relay-fault-ring .result)) ring-refused (c .relay-fault-ring .ensures);
       charts = worked-charts;
+      sizes = worked-sizes;
     }
