@@ -1,4 +1,6 @@
 // Agreement among the craft of a flight, whatever carries its notes: theorems, each on the contract of a function.
+#![tactic(auto)]
+
 ghost use Rattle.std.specs.Prelude.{◌≡◌, ℕ, List};
 ghost use Rattle.matter.specs.Layouts.{Kind};
 ghost use Rattle.agreement.specs.Agreement.{Agreement};

@@ -1,4 +1,6 @@
 // Carriers: they carry notes from craft to craft, over the links of a chart.
+#![tactic(auto)]
+
 pub mod agreeing;
 pub mod carrier;
 pub mod direct;

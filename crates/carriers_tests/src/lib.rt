@@ -1,4 +1,6 @@
 // The direct carrier over both link services.
+#![tactic(auto)]
+
 #[cfg(test)]
 mod agreeing;
 #[cfg(test)]

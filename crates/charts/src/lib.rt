@@ -1,4 +1,6 @@
 // Charts: which craft of a flight hear which.
+#![tactic(auto)]
+
 pub mod chart;
 pub mod examples;
 pub mod neighbours;

@@ -1,4 +1,6 @@
 // Cuts: whether a carrier may be opened on a chart.
+#![tactic(auto)]
+
 pub mod complete;
 pub mod direct;
 pub mod examples;

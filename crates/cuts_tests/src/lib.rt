@@ -1,4 +1,6 @@
 // Tests of cuts: the relay's test beside a slow one, on every chart of up to five craft, and how many closures it computes.
+#![tactic(auto)]
+
 #[cfg(test)]
 mod counted;
 #[cfg(test)]

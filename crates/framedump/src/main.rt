@@ -1,4 +1,6 @@
 // Reads captured frames from standard input, and prints a line for each.
+#![tactic(auto)]
+
 use std::io;
 use std::io::Read;
 

@@ -1,4 +1,6 @@
 // Frames: what craft say, as values and as bytes, and the line by which a craft books.
+#![tactic(auto)]
+
 pub mod bookings;
 pub mod buffers;
 pub mod frame_bytes;

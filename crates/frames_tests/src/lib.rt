@@ -1,4 +1,6 @@
 // Cases at the edges of each refusal of reader, writer, matter and line.
+#![tactic(auto)]
+
 #[cfg(test)]
 mod bookings;
 #[cfg(test)]

@@ -1,4 +1,6 @@
 // Link services: they carry frames over the links of a chart.
+#![tactic(auto)]
+
 pub mod entries;
 pub mod entry_list;
 pub mod entry_service;

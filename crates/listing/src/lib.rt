@@ -1,4 +1,6 @@
 // A capture of frames as text: a line for each frame, with its count from 1.
+#![tactic(auto)]
+
 ghost use Rattle.std.specs.Prelude.{◌≡◌, [], ◌∷◌, ◌++◌, IfOk, string_bytes, OnOk};
 ghost use Rattle.matter.specs.Kinds.{observed, kept_out};
 ghost use Rattle.frames.specs.Lines.{hexes};

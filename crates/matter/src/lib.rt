@@ -1,4 +1,6 @@
 // Matter: what an order carries, as a value and as a word of eight bytes.
+#![tactic(auto)]
+
 pub mod any_matter;
 pub mod examples;
 pub mod keep_outs;

@@ -1,4 +1,6 @@
 // Refusals: why a call is refused, and which layer refused it. One list for all layers.
+#![tactic(auto)]
+
 ghost use Rattle.std.specs.Prelude.{◌≡◌};
 ghost use Rattle.refusals.specs.Refusals.{number_of, layer_number};
 ghost use Rattle.refusals.specs.Apart.{ToldApart, NumbersTo};

@@ -1,4 +1,6 @@
 // Dolev's relay by path sets, as a carrier over any link service.
+#![tactic(auto)]
+
 pub mod gain;
 pub mod kinds;
 pub mod relay_carrier;

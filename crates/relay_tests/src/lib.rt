@@ -1,4 +1,6 @@
 // The relay over both link services, and one craft's step.
+#![tactic(auto)]
+
 #[cfg(test)]
 mod agreeing;
 #[cfg(test)]

@@ -1,4 +1,6 @@
 // Sets of craft: bit i of a number stands for craft i.
+#![tactic(auto)]
+
 ghost use Rattle.std.specs.Prelude.{◌≡◌, ℕ, ◌+◌, ◌-◌, ◌<◌, min, Decides, MatchOption, nat_le};
 ghost use Rattle.sets.specs.Quorums.{quorum, Counting};
 ghost use Rattle.sets.specs.Sets.{labels, In, IsLowest, has, inside, meeting, union, shared, less, only, one_of, below, count, others};
