@@ -43,7 +43,7 @@ pub fn read_back<M: Matter>(matter: &M) -> Result<M, Fault>
 
 // A word that is read comes back from what was read; any other is refused as its reader refuses it.
 pub fn written_again<M: Matter + Drop>(word: u64) -> Result<u64, Fault>
-    ensures { WrittenAgain kinds word result }
+    ensures { WrittenAgain M.kinds word result }
 {
     Ok(M::of_word(word)?.word())
 }

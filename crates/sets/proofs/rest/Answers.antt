@@ -7,7 +7,7 @@ use Rattle.sets.proofs.rest.Goals as goal
 pub returns : goal.returns
 returns c =
     let m : ℕ = c.args.set in
-    let e : shared m c.saturating-sub.result ≡ shared m (m - 1) = ap (λ (x : ℕ). shared m x) c.saturating-sub.ensures in
+    let e : shared m c.saturating_sub.result ≡ shared m (m - 1) = ap (λ (x : ℕ). shared m x) c.saturating_sub.ensures in
     record {
       answer = e;
       members = λ i p. e ∙ cleared-less i m p;

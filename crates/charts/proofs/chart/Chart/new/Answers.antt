@@ -12,33 +12,37 @@ pub returns-in-Some : goal.returns-in-Some
 returns-in-Some c =
     let rows = c.args.rows.now in
     let e : refusal (chart_causes rows c.args.f) ≡ Some (told c.refuses-in-Some.result) =
-    rows_asked rows c.args.f (sym c.if-not-is-sized.ensures) ∙ c.in-Some.ensures
+    rows_asked rows c.args.f (sym c.if-not-is_sized.ensures) ∙ c.in-Some.ensures
     ∙ ap (λ (x : Fault). Some (told x)) (sym c.refuses-in-Some.ensures) in
     (e, chart-refused rows c.args.f (told c.refuses-in-Some.result) e)
 
-pub invariant-of-result : goal.invariant-of-result
-invariant-of-result c =
+pub invariant_of-result : goal.invariant_of-result
+invariant_of-result c =
     let rows = c.args.rows.now in
     let n : ℕ = length rows in
-    let p = chart-passed rows c.args.f (rows_asked rows c.args.f (sym c.if-not-is-sized.ensures) ∙ c.in-default.ensures) in
-    let all : List ℕ = c.all-rows.result in
-    let s : Sound n all = subst (Sound n) (sym c.all-rows.ensures) (sound-padded n rows p.1) in (
-      (p.0.0, p.0.1),
-      (ap length c.all-rows.ensures ∙ length-padded rows p.0.1, (sound-apart n all s, (sound-bounded n all s, (sound-mutual n all s, tt)))),
-    )
+    let p = chart-passed rows c.args.f (rows_asked rows c.args.f (sym c.if-not-is_sized.ensures) ∙ c.in_default.ensures) in
+    let all : List ℕ = c.all_rows.result in
+    let s : Sound n all = subst (Sound n) (sym c.all_rows.ensures) (sound-padded n rows p.1) in
+    record {
+      few = (p.0.0, p.0.1);
+      full = ap length c.all_rows.ensures ∙ length-padded rows p.0.1;
+      apart = sound-apart n all s;
+      bounded = sound-bounded n all s;
+      «mutual» = sound-mutual n all s;
+    }
 
 pub returns : goal.returns
 returns c =
     let rows = c.args.rows.now in
     let e : refusal (chart_causes rows c.args.f) ≡ None =
-    rows_asked rows c.args.f (sym c.if-not-is-sized.ensures) ∙ c.in-default.ensures in
+    rows_asked rows c.args.f (sym c.if-not-is_sized.ensures) ∙ c.in_default.ensures in
     let p = chart-passed rows c.args.f e in
     let n : ℕ = length rows in (
       e,
       record {
         size = refl;
-        whole = c.all-rows.ensures;
-        front = ap (λ (l : List ℕ). take n l) c.all-rows.ensures ∙ take-padded rows n refl;
+        whole = c.all_rows.ensures;
+        front = ap (λ (l : List ℕ). take n l) c.all_rows.ensures ∙ take-padded rows n refl;
         enough = p.0;
         sound = p.1;
       },

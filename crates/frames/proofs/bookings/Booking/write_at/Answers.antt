@@ -4,5 +4,5 @@ use Rattle.frames.proofs.bookings.Booking.write_at.Goals as goal
 
 pub returns : goal.returns
 returns c =
-    let P : List ℕ → Type 0 = λ bs. Puts c.args.buf.now c.args.at bs c.put-at.result c.put-at.new.buf in
-    subst P c.line.ensures c.put-at.ensures
+    let P : List ℕ → Type 0 = λ bs. Puts c.args.buf.now c.args.at bs c.put_at.result c.put_at.new.buf in
+    subst P c.line.ensures c.put_at.ensures

@@ -4,5 +4,5 @@ use Rattle.frames.proofs.notes.Frame.from_bytes.Goals as goal
 
 pub returns : goal.returns
 returns c =
-    frame_read c.args.bytes.now c.in-ok-read-frame.field-0 c.frame.result (λ i. search (rules, c.type-inv.bytes i))
-    c.in-ok-read-frame.ensures c.frame.ensures
+    frame_read c.args.bytes.now c.in_ok-read_frame.field-0 c.frame.result (λ i. search (rules, c.type_inv.bytes i))
+    c.in_ok-read_frame.ensures c.frame.ensures
