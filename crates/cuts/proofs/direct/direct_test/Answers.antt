@@ -15,7 +15,7 @@ returns-in-Some c =
     let rows = c.args.chart.rows in
     let x = c.refuses-in-Some.result in
     let e : refusal (direct_causes n f rows) ≡ Some (told x) =
-    size_asked n f (in_pairs (unlinked_cause rows) n n) (sym c.if-not-is-enough.ensures) ∙ c.in-Some.ensures
+    size_asked n f (in_pairs (unlinked_cause rows) n n) (sym c.if-not-is_enough.ensures) ∙ c.in-Some.ensures
     ∙ ap (λ (y : Fault). Some (told y)) (sym c.refuses-in-Some.ensures) in
     let why = direct-refused n f rows (told x) e in
     record {
@@ -23,10 +23,10 @@ returns-in-Some c =
       meaning = (λ h. absurd (both_ways _ refl h), λ h. absurd (refused-not n f rows (told x) why h));
     }
 
-pub invariant-of-result : goal.invariant-of-result
-invariant-of-result c =
+pub invariant_of-result : goal.invariant_of-result
+invariant_of-result c =
     let n = c.args.chart.n in
     let f = c.args.f in
     let rows = c.args.chart.rows in
-    let p = direct-passed n f rows (size_asked n f (in_pairs (unlinked_cause rows) n n) (sym c.if-not-is-enough.ensures) ∙ c.in-default.ensures) in
-    (p.0, (p.1, tt))
+    let p = direct-passed n f rows (size_asked n f (in_pairs (unlinked_cause rows) n n) (sym c.if-not-is_enough.ensures) ∙ c.in_default.ensures) in
+    record { enough = p.0; complete = p.1 }

@@ -16,7 +16,7 @@ returns-in-Some c =
 pub loop-u-preserved : goal.loop-u-preserved
 loop-u-preserved c =
     let chart = c.args.chart.now in
-    turn_more (λ u. above (unlinked_cause chart.rows u) u chart.n) c.loop-u.u c.loop-u.invariant c.in-default.ensures
+    turn_more (λ u. above (unlinked_cause chart.rows u) u chart.n) c.loop-u.u c.loop-u.invariant c.in_default.ensures
 
 pub returns : goal.returns
 returns c =

@@ -13,7 +13,7 @@ returns c =
     let u = c.args.u in
     let v = c.args.v in
     let e : not c.contains.result ≡ parted n chart.rows u v c.args.avoid =
-    ap not (c.contains.ensures ∙ ap (λ (s : ℕ). has s v) c.reached_by_walks_lem.ensures.answer) in
+    ap not (c.contains.ensures ∙ ap (λ (s : ℕ). has s v) c.reached_by_walks.ensures.answer) in
     let d = Decides-at _ _ e (Decides-not _ (decides-reached n chart.rows chart.bounded c.args.avoid u v)) in
     record {
       answer = e;

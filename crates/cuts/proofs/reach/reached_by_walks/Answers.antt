@@ -6,7 +6,7 @@ use Rattle.cuts.proofs.reach.reached_by_walks.Goals as goal
 
 pub loop-round-init : goal.loop-round-init
 loop-round-init c =
-    c.minus-found.ensures ∙ ap (λ (x : ℕ). less x c.args.avoid) c.craft-alone.ensures
+    c.minus-found.ensures ∙ ap (λ (x : ℕ). less x c.args.avoid) c.craft_alone.ensures
     ∙ sym (rounds-none c.args.chart.now.n c.args.chart.now.rows c.args.avoid c.args.from)
 
 pub loop-round-preserved : goal.loop-round-preserved
@@ -14,7 +14,7 @@ loop-round-preserved c =
     let n = c.args.chart.now.n in
     let rows = c.args.chart.now.rows in
     c.minus-found-in-loop-round.ensures
-    ∙ ap (λ (x : ℕ). less (union c.loop-round.found x) c.args.avoid) c.neighbours-of.ensures
+    ∙ ap (λ (x : ℕ). less (union c.loop-round.found x) c.args.avoid) c.neighbours_of.ensures
     ∙ ap (λ (x : ℕ). less (union x (around rows x n)) c.args.avoid) c.loop-round.invariant
     ∙ sym (rounds-more n rows c.args.avoid c.args.from c.loop-round.round)
 

@@ -15,7 +15,7 @@ returns-in-Some c =
     let rows = c.args.chart.rows in
     let x = c.refuses-in-Some.result in
     let e : refusal (relay_causes n f rows) ≡ Some (told x) =
-    size_asked n f (in_pairs (thin_causes n rows (2 * f)) n n) (sym c.if-not-is-enough.ensures) ∙ c.in-Some.ensures
+    size_asked n f (in_pairs (thin_causes n rows (2 * f)) n n) (sym c.if-not-is_enough.ensures) ∙ c.in-Some.ensures
     ∙ ap (λ (y : Fault). Some (told y)) (sym c.refuses-in-Some.ensures) in
     let why = relay_refused n f rows c.args.chart.bounded (told x) e in
     record {
@@ -23,11 +23,11 @@ returns-in-Some c =
       meaning = (λ h. absurd (both_ways _ refl h), λ h. absurd (refused-not n f rows c.args.chart.bounded (told x) why h));
     }
 
-pub invariant-of-result : goal.invariant-of-result
-invariant-of-result c =
+pub invariant_of-result : goal.invariant_of-result
+invariant_of-result c =
     let n = c.args.chart.n in
     let f = c.args.f in
     let rows = c.args.chart.rows in
     let p = relay_passed n f rows c.args.chart.bounded
-    (size_asked n f (in_pairs (thin_causes n rows (2 * f)) n n) (sym c.if-not-is-enough.ensures) ∙ c.in-default.ensures) in
-    (p.0, (p.1, tt))
+    (size_asked n f (in_pairs (thin_causes n rows (2 * f)) n n) (sym c.if-not-is_enough.ensures) ∙ c.in_default.ensures) in
+    record { enough = p.0; passed = p.1 }

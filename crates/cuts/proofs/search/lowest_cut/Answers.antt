@@ -14,21 +14,21 @@ width n h = one_shl n 16 (omega arith)
 pub loop-tried-init : goal.loop-tried-init
 loop-tried-init c = none-turn _ 0 (λ i l. absurd (omega arith))
 
-pub returns-then-is-cut : goal.returns-then-is-cut
-returns-then-is-cut c =
+pub returns-then-is_cut : goal.returns-then-is_cut
+returns-then-is_cut c =
     let chart = c.args.chart.now in
     let p = parted chart.n chart.rows c.args.u c.args.v in
     let s = c.loop-tried.tried in
     turn_at (cut_cause p c.args.candidates c.args.most c.args.u c.args.v) (2 ^ chart.n) s (thin_told c.args.u c.args.v s)
     (omega (arith, width chart.n chart.few.1)) c.loop-tried.invariant
-    (cut-refused p c.args.candidates c.args.most c.args.u c.args.v s (sym c.if-is-cut.ensures))
+    (cut-refused p c.args.candidates c.args.most c.args.u c.args.v s (sym c.if-is_cut.ensures))
 
 pub loop-tried-preserved : goal.loop-tried-preserved
 loop-tried-preserved c =
     let chart = c.args.chart.now in
     let p = parted chart.n chart.rows c.args.u c.args.v in
     turn_more (cut_cause p c.args.candidates c.args.most c.args.u c.args.v) c.loop-tried.tried c.loop-tried.invariant
-    (cut_passes p c.args.candidates c.args.most c.args.u c.args.v c.loop-tried.tried (sym c.if-is-cut.ensures))
+    (cut_passes p c.args.candidates c.args.most c.args.u c.args.v c.loop-tried.tried (sym c.if-is_cut.ensures))
 
 pub returns : goal.returns
 returns c =

@@ -6,7 +6,7 @@ use Rattle.cuts.specs.Causes.{cut_causes, thin_causes, thin_told}
 use Rattle.cuts.proofs.PairLaws.{above-start, above_more, above_at}
 use Rattle.cuts.proofs.RelayLaws.{thin_linked, thin_asked}
 use Rattle.cuts.proofs.search.thin_above.Goals as goal
-use Rattle.cuts.proofs.search.thin_above.Goals.{then-not-linked+in-default, else-not-linked}
+use Rattle.cuts.proofs.search.thin_above.Goals.{then-not-linked+in_default, else-not-linked}
 
 pub loop-v-init : goal.loop-v-init
 loop-v-init c = above-start (thin_causes c.args.chart.now.n c.args.chart.now.rows c.args.most c.args.u) c.args.u
@@ -19,7 +19,7 @@ returns-in-Some c =
     let v = c.loop-v.v in
     above_at (thin_causes n rows c.args.most u) u n v (thin_told u v c.in-Some.set) (omega arith) c.loop-v-test.true c.loop-v.invariant (
     thin_asked n rows c.args.most u v (sym c.if-not-linked.ensures.answer)
-    ∙ ap (λ (x : ℕ). refusal (cut_causes (parted n rows u v) x c.args.most u v (2 ^ n))) (sym c.all-but.ensures)
+    ∙ ap (λ (x : ℕ). refusal (cut_causes (parted n rows u v) x c.args.most u v (2 ^ n))) (sym c.all_but.ensures)
     ∙ c.in-Some.ensures)
 
 pub loop-v-preserved : goal.loop-v-preserved
@@ -29,10 +29,10 @@ loop-v-preserved c =
     let u = c.args.u in
     let v = c.loop-v.v in
     above_more (thin_causes n rows c.args.most u) u v c.loop-v.invariant (omega arith) (elim c.if-not-linked.branch [
-      | then-not-linked+in-default w ↦
+      | then-not-linked+in_default w ↦
           thin_asked n rows c.args.most u v (sym w.if-not-linked.ensures.answer)
-          ∙ ap (λ (x : ℕ). refusal (cut_causes (parted n rows u v) x c.args.most u v (2 ^ n))) (sym w.all-but.ensures)
-          ∙ w.in-default.ensures
+          ∙ ap (λ (x : ℕ). refusal (cut_causes (parted n rows u v) x c.args.most u v (2 ^ n))) (sym w.all_but.ensures)
+          ∙ w.in_default.ensures
       | else-not-linked w ↦ thin_linked n rows c.args.most u v (sym w.if-not-linked.ensures.answer)
     ])
 

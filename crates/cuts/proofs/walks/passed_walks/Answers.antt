@@ -12,7 +12,7 @@ returns c =
     let n = p.chart.n in
     let rows = p.chart.rows in
     let e : c.contains.result ≡ has (reached n rows c.args.avoid c.args.u) c.args.v =
-    c.contains.ensures ∙ ap (λ (s : ℕ). has s c.args.v) c.reached_by_walks_lem.ensures.answer in
+    c.contains.ensures ∙ ap (λ (s : ℕ). has s c.args.v) c.reached_by_walks.ensures.answer in
     let d = Decides-at _ _ e (decides-reached n rows p.chart.bounded c.args.avoid c.args.u c.args.v) in
     record {
       meaning = d;

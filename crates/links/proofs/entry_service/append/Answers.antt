@@ -11,11 +11,11 @@ pub bounds-list-len : goal.bounds-list-len
 bounds-list-len c =
     omega (arith, each-room (entry_to c.args.from c.args.frame) c.args.set c.loop-to.to 8 (sym c.if-contains.ensures) c.loop-to-test.true)
 
-pub offset-bounds-list-len : goal.offset-bounds-list-len
-offset-bounds-list-len c = let h : c.loop-to.len < length c.loop-to.list = bounds-list-len c in search rules
+pub offset_bounds-list-len : goal.offset_bounds-list-len
+offset_bounds-list-len c = let h : c.loop-to.len < length c.loop-to.list = bounds-list-len c in search rules
 
-pub overflow-add-len : goal.overflow-add-len
-overflow-add-len c = let h : c.loop-to.len < length c.loop-to.list = bounds-list-len c in search rules
+pub overflow_add-len : goal.overflow_add-len
+overflow_add-len c = let h : c.loop-to.len < length c.loop-to.list = bounds-list-len c in search rules
 
 pub loop-to-init : goal.loop-to-init
 loop-to-init c =

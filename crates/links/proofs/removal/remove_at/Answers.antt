@@ -9,7 +9,7 @@ returns-then-n-list g c =
     let both = and_from _ _ (lt-ltb _ _ c.if-k-n.true) (le-leb _ _ c.if-n-list.true) in
     record {
       after =
-          ap (λ (part : List g.row.T.Denot). put_mid c.args.k (c.args.n - c.args.k) c.args.list.now part) c.rotate-left.ensures.after
+          ap (λ (part : List g.row.T.Denot). put_mid c.args.k (c.args.n - c.args.k) c.args.list.now part) c.rotate_left.ensures.after
           ∙ sym (cond-true _ _ _ both);
-      front = λ p q. closed c.args.list.now c.rotate-left.new.self c.args.k c.args.n p q c.rotate-left.ensures.after;
+      front = λ p q. closed c.args.list.now c.rotate_left.new.self c.args.k c.args.n p q c.rotate_left.ensures.after;
     }

@@ -5,13 +5,13 @@ use Rattle.shelves.specs.Rows.{covered}
 use Rattle.shelves.proofs.Coverings.{covered-at, covered_more}
 use Rattle.shelves.proofs.shelf.one_covers.Goals as goal
 
-pub returns-then-covers-set : goal.returns-then-covers-set
-returns-then-covers-set c =
-    sym (covered-at c.args.author c.args.note.now c.args.set c.args.rows.now c.loop-row.row-index _ c.loop-row-test.true (sym c.if-covers-set.ensures))
+pub returns-then-covers_set : goal.returns-then-covers_set
+returns-then-covers_set c =
+    sym (covered-at c.args.author c.args.note.now c.args.set c.args.rows.now c.loop-row.row-index _ c.loop-row-test.true (sym c.if-covers_set.ensures))
 
 pub loop-row-preserved : goal.loop-row-preserved
 loop-row-preserved c =
-    covered_more c.args.author c.args.note.now c.args.set c.args.rows.now c.loop-row.row-index _ c.loop-row-test.true c.loop-row.invariant (sym c.if-covers-set.ensures)
+    covered_more c.args.author c.args.note.now c.args.set c.args.rows.now c.loop-row.row-index _ c.loop-row-test.true c.loop-row.invariant (sym c.if-covers_set.ensures)
 
 pub returns : goal.returns
 returns c =

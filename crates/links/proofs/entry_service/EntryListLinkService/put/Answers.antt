@@ -7,22 +7,22 @@ use Rattle.links.specs.Meanings.{entry_to}
 use Rattle.links.proofs.Judged.{accepted}
 use Rattle.links.proofs.entry_service.EntryListLinkService.put.Goals as goal
 
-pub returns-in-err-judge-put : goal.returns-in-err-judge-put
-returns-in-err-judge-put c =
-    let p = err_from_is_err_and c.from-residual.result c.from-residual.ensures.1 in
-    rw (p.1, p.2) (rw (c.spare-spare.ensures, c.rows-of.ensures.rows) at c.in-err-judge-put.ensures, refl)
+pub returns-in_err-judge_put : goal.returns-in_err-judge_put
+returns-in_err-judge_put c =
+    let p = err_from_is_err_and c.from_residual.result c.from_residual.ensures.1 in
+    rw (p.1, p.2) (rw (c.spare-spare.ensures, c.rows_of.ensures.rows) at c.in_err-judge_put.ensures, refl)
 
 pub append-end-requires : goal.append-end-requires
 append-end-requires c =
-    let a = accepted c.rows-of.result.now c.spare-spare.result c.args.from c.args.set c.in-ok-judge-put.ensures in
+    let a = accepted c.rows_of.result.now c.spare-spare.result c.args.from c.args.set c.in_ok-judge_put.ensures in
     omega (arith, each-few (entry_to c.args.from c.args.frame) c.args.set c.args.from 8 a.0.apart (omega arith))
 
 pub returns : goal.returns
 returns c =
-    let a = accepted c.rows-of.result.now c.spare-spare.result c.args.from c.args.set c.in-ok-judge-put.ensures in
+    let a = accepted c.rows_of.result.now c.spare-spare.result c.args.from c.args.set c.in_ok-judge_put.ensures in
     let few = each-few (entry_to c.args.from c.args.frame) c.args.set c.args.from 8 a.0.apart (omega arith) in
     record {
-      accepted = rw (c.spare-spare.ensures, c.rows-of.ensures.rows) at c.in-ok-judge-put.ensures;
+      accepted = rw (c.spare-spare.ensures, c.rows_of.ensures.rows) at c.in_ok-judge_put.ensures;
       waiting = c.append-end.ensures.items;
       spare = omega arith;
       kept = record { rows = refl; capacity = ap (λ (i : ℕ). i / fan_out) c.append-end.auto.list; lent = c.append-end.auto.list; needed = refl };

@@ -10,8 +10,8 @@ use Rattle.links.proofs.entry_service.EntryListLinkService.take.Goals as goal
 pub bounds-self-k : goal.bounds-self-k
 bounds-self-k c = omega (arith, length-take c.args.self.now.len c.args.self.now.list.now)
 
-pub offset-bounds-self-k : goal.offset-bounds-self-k
-offset-bounds-self-k c = let h : c.args.k < length c.args.self.now.list.now = bounds-self-k c in search rules
+pub offset_bounds-self-k : goal.offset_bounds-self-k
+offset_bounds-self-k c = let h : c.args.k < length c.args.self.now.list.now = bounds-self-k c in search rules
 
 pub returns : goal.returns
 returns c =
@@ -22,7 +22,7 @@ returns c =
     record {
       accepted = cond-false _ _ _ (lt-leb (length (take len list)) c.args.k (omega arith));
       entry = search (rules, places);
-      waiting = c.remove-at.ensures.front (omega arith) (omega arith) ∙ ap (λ (t : List Entry). remove t c.args.k) same;
+      waiting = c.remove_at.ensures.front (omega arith) (omega arith) ∙ ap (λ (t : List Entry). remove t c.args.k) same;
       spare = omega arith;
-      kept = record { rows = refl; capacity = ap (λ (i : ℕ). i / fan_out) c.remove-at.auto.list; lent = c.remove-at.auto.list; needed = refl };
+      kept = record { rows = refl; capacity = ap (λ (i : ℕ). i / fan_out) c.remove_at.auto.list; lent = c.remove_at.auto.list; needed = refl };
     }

@@ -3,13 +3,13 @@ use Rattle.shelves.specs.Rows.{stays}
 use Rattle.std.proofs.lemmas.List.Filters.{FiltersInPlace-more_set, FiltersInPlace-more_no}
 use Rattle.std.proofs.lemmas.List.{get_or_default}
 use Rattle.shelves.proofs.kinds.Shelf.drop_above.Goals as goal
-use Rattle.shelves.proofs.kinds.Shelf.drop_above.Goals.{then_Keeps, else-keeps}
+use Rattle.shelves.proofs.kinds.Shelf.drop_above.Goals.{then-keeps, else-keeps}
 
 pub loop-i-preserved : goal.loop-i-preserved
 loop-i-preserved c = (
   (let l : c.loop-i.i < length c.loop-i.self.rows = search rules in
       elim c.if-keeps.branch [
-        | then_Keeps w ↦ rw (w.self-is, w.k-is) (FiltersInPlace-more_set c.loop-i.invariant.0 l (sym c.keeps.ensures ∙ w.if-keeps.true) (get_or_default c.loop-i.self.rows c.loop-i.i _ _ l))
+        | then-keeps w ↦ rw (w.self-is, w.k-is) (FiltersInPlace-more_set c.loop-i.invariant.0 l (sym c.keeps.ensures ∙ w.if-keeps.true) (get_or_default c.loop-i.self.rows c.loop-i.i _ _ l))
         | else-keeps w ↦ rw (w.self-is, w.k-is) (FiltersInPlace-more_no c.loop-i.invariant.0 l (sym c.keeps.ensures ∙ w.if-keeps.false) (get_or_default c.loop-i.self.rows c.loop-i.i _ _ l))
       ]),
   refl,

@@ -9,9 +9,9 @@ use Rattle.shelves.proofs.kinds.Shelf.hold.Goals as goal
 
 pub returns-then-at-ge-LENGTH : goal.returns-then-at-ge-LENGTH
 returns-then-at-ge-LENGTH c =
-    let d = c.drop-above.ensures in
+    let d = c.drop_above.ensures in
     let before = rows_of c.args.self.now in
-    let after = c.drop-above.new.self in
+    let after = c.drop_above.new.self in
     let p = stays c.args.author c.args.note.now c.args.set in
     let l = ap length d.rows in
     let m = length-take after.len after.rows in
@@ -26,9 +26,9 @@ returns-then-at-ge-LENGTH c =
 
 pub returns : goal.returns
 returns c =
-    let d = c.drop-above.ensures in
+    let d = c.drop_above.ensures in
     let before = rows_of c.args.self.now in
-    let after = c.drop-above.new.self in
+    let after = c.drop_above.new.self in
     let p = stays c.args.author c.args.note.now c.args.set in
     let l = ap length d.rows in
     let m = length-take after.len after.rows in
