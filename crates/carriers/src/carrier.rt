@@ -26,7 +26,7 @@ pub trait Carrier {
 
     // The author says the note; 1, 5, 8. A note that it said before changes nothing.
     fn say(&mut self, author: u8, note: Note) -> Result<(), Fault>
-        ensures step { sound self.old → Say By-as-Gain.gain (meaning self.old) author note result (meaning self.new) × sound self.new }
+        ensures step { sound self.old → Say Self.By.gain (meaning self.old) author note result (meaning self.new) × sound self.new }
         ensures fixed { Fixed (meaning self.old) (meaning self.new) };
 
     // Moves the frame that waits at index k, and answers who heard what by it; 7, 8.

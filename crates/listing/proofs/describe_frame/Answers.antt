@@ -14,10 +14,10 @@ same f name set content matter p q r s = cc
 
 pub returns : goal.returns
 returns c =
-    let P : List ℕ → Type 0 = λ text. IfOk c.in-columns.result (λ s. string_bytes s ≡ text) in
-    let a = c.in-ok-set.ensures in
-    let b = c.in-ok-content.ensures in
-    let d = c.in-ok-matter.ensures in
+    let P : List ℕ → Type 0 = λ text. IfOk c.in_columns.result (λ s. string_bytes s ≡ text) in
+    let a = c.in_ok-set.ensures in
+    let b = c.in_ok-content.ensures in
+    let d = c.in_ok-matter.ensures in
     subst P
-    (same c.args.frame.now c.name-of.result.now c.as-str.result.now c.as-str-2.result.now c.as-str-3.result.now c.name-of.ensures (cc) (cc) (cc))
-    c.in-columns.ensures
+    (same c.args.frame.now c.name_of.result.now c.as_str.result.now c.as_str-2.result.now c.as_str-3.result.now c.name_of.ensures (cc) (cc) (cc))
+    c.in_columns.ensures

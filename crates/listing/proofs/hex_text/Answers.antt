@@ -6,7 +6,7 @@ use Rattle.listing.proofs.hex_text.Goals as goal
 
 pub loop-byte-preserved : goal.loop-byte-preserved
 loop-byte-preserved c =
-    c.in-ok-push-hex.ensures
+    c.in_ok-push_hex.ensures
     ∙ ap (λ (l : List ℕ). l ++ hexes (get_or c.args.bytes.now c.loop-byte.byte-index 0 ∷ [])) c.loop-byte.invariant
     ∙ sym (hexes-more c.args.bytes.now c.loop-byte.byte-index (omega arith))
 

@@ -14,10 +14,10 @@ pub returns : goal.returns
 returns c =
     let before : List ℕ = string_bytes c.args.text.now in
     let byte : c.args.byte < 256 = search rules in
-    let high : c.from.result ≡ hex (c.args.byte / 16) = c.from.ensures ∙ ap (λ (l : List ℕ). get_or l 0 0) c.hex-pair.ensures in
-    let low : c.from-2.result ≡ hex (c.args.byte % 16) = c.from-2.ensures ∙ ap (λ (l : List ℕ). get_or l 1 0) c.hex-pair.ensures in
-    let one = pushed {xs = before} (encode c.from.result) refl c.in-ok-push.was c.push.ensures.bytes in
-    let two = pushed (encode c.from-2.result) one c.in-ok-push-2.was c.push-2.ensures.bytes in
+    let high : c.from.result ≡ hex (c.args.byte / 16) = c.from.ensures ∙ ap (λ (l : List ℕ). get_or l 0 0) c.hex_pair.ensures in
+    let low : c.from-2.result ≡ hex (c.args.byte % 16) = c.from-2.ensures ∙ ap (λ (l : List ℕ). get_or l 1 0) c.hex_pair.ensures in
+    let one = pushed {xs = before} (encode c.from.result) refl c.in_ok-push.was c.push.ensures.bytes in
+    let two = pushed (encode c.from-2.result) one c.in_ok-push-2.was c.push-2.ensures.bytes in
     two
     ∙ append_assoc before (encode c.from.result) (encode c.from-2.result)
     ∙ ap (λ (l : List ℕ). before ++ (l ++ encode c.from-2.result)) (one_byte c.from.result (c.args.byte / 16) high (omega arith))

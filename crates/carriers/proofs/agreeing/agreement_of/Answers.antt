@@ -2,4 +2,4 @@ use Rattle.agreement.proofs.Agrees.{agreement-over}
 use Rattle.carriers.proofs.agreeing.agreement_of.Goals as goal
 
 pub returns : goal.returns
-returns g c = record { answer = c.two-craft-agree.ensures.answer; agreement = agreement-over g.met.C.Carrier.lawful }
+returns g c = record { answer = c.two_craft_agree.ensures.answer; agreement = agreement-over g.met.C.Carrier.lawful }

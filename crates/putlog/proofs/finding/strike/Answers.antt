@@ -39,8 +39,8 @@ returns-then-left-eq0 c =
     found ps i j k to left c.find-i.ensures.within c.find-i.ensures.before c.find-i.ensures.after c.nth-to.ensures.label c.nth-to.ensures.inside c.nth-to.ensures.below in
     let b = less_by (get_or ps i blank).to left to c.nth-to.ensures.label c.without-left.ensures in
     let r : Less ps i j k to left = record { out = b.0; same = b.1 } in
-    let gone : take (length ps - 1) c.remove-at.new.list ≡ remove ps i =
-    c.remove-at.ensures.front c.find-i.ensures.within (omega arith) ∙ ap (λ (l : List LoggedPut). remove l i) (take_all (length ps) ps (omega arith)) in
+    let gone : take (length ps - 1) c.remove_at.new.list ≡ remove ps i =
+    c.remove_at.ensures.front c.find-i.ensures.within (omega arith) ∙ ap (λ (l : List LoggedPut). remove l i) (take_all (length ps) ps (omega arith)) in
     record {
       entry = strikes.entry-is ps i j k to left w _;
       left = omega arith;

@@ -9,15 +9,15 @@ use Rattle.carriers.specs.Straight.{is-straight}
 use Rattle.carriers.specs.Steps.{drop-step, hear-step, told_at, hears_crooked, hears_old, hears-new}
 use Rattle.carriers.proofs.direct_carrier.DirectCarrier.carry.Goals as goal
 
-pub returns-then-not-is-straight : goal.returns-then-not-is-straight
-returns-then-not-is-straight g c =
+pub returns-then-not-is_straight : goal.returns-then-not-is_straight
+returns-then-not-is_straight g c =
     let d = c.args.self.now in
     let m = g.L.LinkService.meaning in
     let k = c.args.k in
-    let e = c.in-ok-entry.entry in
-    let take = c.in-ok-entry.ensures in
-    let ok = judged-carry k c.waiting-waiting.ensures c.spare-spare.ensures c.in-ok-judge-carry.ensures in
-    let crooked = sym c.if-not-is-straight.ensures in
+    let e = c.in_ok-entry.entry in
+    let take = c.in_ok-entry.ensures in
+    let ok = judged-carry k c.waiting-waiting.ensures c.spare-spare.ensures c.in_ok-judge_carry.ensures in
+    let crooked = sym c.if-not-is_straight.ensures in
     let tells = hears_crooked d.complete.chart.n (heard_on d.table.at) e crooked in
     record {
       step = λ s. let r = drop-step m d s c.take.new.self k e take (λ t. absurd (both_ways _ crooked t)) in ((ok, r.0), r.1);
@@ -32,9 +32,9 @@ returns-then-covers g c =
     let d = c.args.self.now in
     let m = g.L.LinkService.meaning in
     let k = c.args.k in
-    let e = c.in-ok-entry.entry in
-    let take = c.in-ok-entry.ensures in
-    let ok = judged-carry k c.waiting-waiting.ensures c.spare-spare.ensures c.in-ok-judge-carry.ensures in
+    let e = c.in_ok-entry.entry in
+    let take = c.in_ok-entry.ensures in
+    let ok = judged-carry k c.waiting-waiting.ensures c.spare-spare.ensures c.in_ok-judge_carry.ensures in
     let old = sym c.if-covers.ensures in
     let tells = hears_old d.complete.chart.n (heard_on d.table.at) e old in
     record {
@@ -50,11 +50,11 @@ returns g c =
     let d = c.args.self.now in
     let m = g.L.LinkService.meaning in
     let k = c.args.k in
-    let e = c.in-ok-entry.entry in
-    let take = c.in-ok-entry.ensures in
-    let ok = judged-carry k c.waiting-waiting.ensures c.spare-spare.ensures c.in-ok-judge-carry.ensures in
+    let e = c.in_ok-entry.entry in
+    let take = c.in_ok-entry.ensures in
+    let ok = judged-carry k c.waiting-waiting.ensures c.spare-spare.ensures c.in_ok-judge_carry.ensures in
     let may = may_carry (means m d).waiting (means m d).spare k ok in
-    let str = sym c.if-not-is-straight.ensures in
+    let str = sym c.if-not-is_straight.ensures in
     let st = is-straight d.complete.chart.n e str in
     let new = sym c.if-covers.ensures in
     let tells = hears-new d.complete.chart.n (heard_on d.table.at) e str new in

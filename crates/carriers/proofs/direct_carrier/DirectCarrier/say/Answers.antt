@@ -17,7 +17,7 @@ pub returns-then-covers : goal.returns-then-covers
 returns-then-covers g c =
     let d = c.args.self.now in
     let m = g.L.LinkService.meaning in
-    let ok = judged-say d.complete.chart.n c.args.author c.args.note c.spare-spare.ensures c.in-ok-judge-say.ensures in
+    let ok = judged-say d.complete.chart.n c.args.author c.args.note c.spare-spare.ensures c.in_ok-judge_say.ensures in
     let old = sym c.if-covers.ensures in
     record {
       step = λ s. (
@@ -38,16 +38,16 @@ returns-then-covers g c =
       exact = (λ e. refl, λ e. absurd (both_ways _ e old));
     }
 
-pub returns-in-err-put : goal.returns-in-err-put
-returns-in-err-put g c =
+pub returns-in_err-put : goal.returns-in_err-put
+returns-in_err-put g c =
     let d = c.args.self.now in
     let m = g.L.LinkService.meaning in
     let a = c.args.author in
     let x = c.args.note in
     let d' = over m d c.put.new.self d.table in
-    let ok = judged-say d.complete.chart.n a x c.spare-spare.ensures c.in-ok-judge-say.ensures in
-    let refused = c.in-err-put.ensures in
-    let p = err_from_is_err_and c.from-residual-in-err-put.result c.from-residual-in-err-put.ensures.1 in
+    let ok = judged-say d.complete.chart.n a x c.spare-spare.ensures c.in_ok-judge_say.ensures in
+    let refused = c.in_err-put.ensures in
+    let p = err_from_is_err_and c.from_residual-in_err-put.result c.from_residual-in_err-put.ensures.1 in
     record {
       step = λ s. never _ _ (say-puts m d s a x ok c.row-neighbours.result (c.row-neighbours.ensures.answer ∙ row_is d.complete.chart a)) refused.0;
       fixed = record { n = refl; f = refl; chart = refl };
@@ -60,11 +60,11 @@ returns g c =
     let m = g.L.LinkService.meaning in
     let a = c.args.author in
     let x = c.args.note in
-    let ok = judged-say d.complete.chart.n a x c.spare-spare.ensures c.in-ok-judge-say.ensures in
+    let ok = judged-say d.complete.chart.n a x c.spare-spare.ensures c.in_ok-judge_say.ensures in
     let may = may_say d.complete.chart.n (means m d).spare a x ok in
     let new = sym c.if-covers.ensures in
     let put = subst (λ (i : ℕ). Appended (m d.links) a i (own_frame a x) (m c.put.new.self))
-    (c.row-neighbours.ensures.answer ∙ row_is d.complete.chart a) c.in-ok-put.ensures in
+    (c.row-neighbours.ensures.answer ∙ row_is d.complete.chart a) c.in_ok-put.ensures in
     let small : a < labels = omega (arith, may.label, d.complete.chart.few) in
     let free : 0 < fewest d.table.at = omega (arith, may.room) in
     let held = held_for_sure d.table.at a a x 0 small free c.hold.result c.hold.new.self.at c.hold.ensures in

@@ -15,22 +15,19 @@ front puts ys m n e l = take-append-le n ys (post_of 0 (m - 0) puts) (omega arit
 whole : (puts : List LoggedPut) (m : ℕ) → take (m - 0) puts ≡ take m puts
 whole puts m = ap (λ (i : ℕ). take i puts) (omega arith)
 
-pub invariant-of-self : goal.invariant-of-self
-invariant-of-self c =
+pub invariant_of-self : goal.invariant_of-self
+invariant_of-self c =
     let s = c.strike-left in
     let puts = c.args.self.now.puts in
     let used = c.args.self.now.used in
-    let same = front puts s.new.puts used s.result.1 s.auto.puts s.ensures.left in (
-      omega (arith, length-append s.new.puts (post_of 0 (used - 0) puts), length-drop (used - 0) puts, length-take (used - 0) puts, s.auto.puts, c.args.self.now.sized, c.args.self.now.within),
-      (
-        omega (arith, length-take (used - 0) puts, s.ensures.left, c.args.self.now.within),
-        (
+    let same = front puts s.new.puts used s.result.1 s.auto.puts s.ensures.left in
+    record {
+      sized = omega (arith, length-append s.new.puts (post_of 0 (used - 0) puts), length-drop (used - 0) puts, length-take (used - 0) puts, s.auto.puts, c.args.self.now.sized, c.args.self.now.within);
+      within = omega (arith, length-take (used - 0) puts, s.ensures.left, c.args.self.now.within);
+      unspent =
           ∥∥₁_map c.args.self.now.unspent (λ o.
-              subst (λ (l : List LoggedPut). Open l) (sym same) (s.ensures.unspent (subst (λ (l : List LoggedPut). Open l) (sym (whole puts used)) o))),
-          tt,
-        ),
-      ),
-    )
+              subst (λ (l : List LoggedPut). Open l) (sym same) (s.ensures.unspent (subst (λ (l : List LoggedPut). Open l) (sym (whole puts used)) o)));
+    }
 
 pub returns : goal.returns
 returns c =
