@@ -5,9 +5,9 @@ use Rattle.pathsets.proofs.examples.worked_families.Goals as goal
 
 pub returns : goal.returns
 returns c =
-    let one : c.is-hittable.result ≡ true = c.is-hittable.ensures.answer ∙ of_one _ 0b00100 c.holding.ensures ∙ not-false _ worked_families_lem.one in
-    let two : c.is-hittable-2.result ≡ false = c.is-hittable-2.ensures.answer ∙ of_two _ _ 0b00100 0b01000 c.holding-2.ensures c.holding-3.ensures ∙ not-true _ worked_families_lem.two in
-    let pairs : c.is-hittable-3.result ≡ true = c.is-hittable-3.ensures.answer ∙ of_two _ _ 0b01100 0b10100 c.holding-4.ensures c.holding-5.ensures ∙ not-false _ worked_families_lem.pairs in
-    let triangle : c.is-hittable-4.result ≡ false =
-    c.is-hittable-4.ensures.answer ∙ of_three _ _ _ 0b01100 0b10100 0b11000 c.holding-6.ensures c.holding-7.ensures c.holding-8.ensures ∙ not-true _ worked_families_lem.triangle in
+    let one : c.is_hittable.result ≡ true = c.is_hittable.ensures.answer ∙ of_one _ 0b00100 c.holding.ensures ∙ not-false _ worked_families_lem.one in
+    let two : c.is_hittable-2.result ≡ false = c.is_hittable-2.ensures.answer ∙ of_two _ _ 0b00100 0b01000 c.holding-2.ensures c.holding-3.ensures ∙ not-true _ worked_families_lem.two in
+    let pairs : c.is_hittable-3.result ≡ true = c.is_hittable-3.ensures.answer ∙ of_two _ _ 0b01100 0b10100 c.holding-4.ensures c.holding-5.ensures ∙ not-false _ worked_families_lem.pairs in
+    let triangle : c.is_hittable-4.result ≡ false =
+    c.is_hittable-4.ensures.answer ∙ of_three _ _ _ 0b01100 0b10100 0b11000 c.holding-6.ensures c.holding-7.ensures c.holding-8.ensures ∙ not-true _ worked_families_lem.triangle in
     record { answer = rw (one, two, pairs, triangle) refl; families = worked_families_lem }

@@ -4,5 +4,5 @@ use Rattle.pathsets.proofs.search.is_hittable.Goals as goal
 
 pub returns : goal.returns
 returns c =
-    let d = with_none _ c.args.f c.is-hittable-with.result c.is-hittable-with.ensures in
-    record { answer = same_from_decides c.is-hittable-with.result _ d (hittable-decides c.args.f _); meaning = d }
+    let d = with_none _ c.args.f c.is_hittable_with.result c.is_hittable_with.ensures in
+    record { answer = same_from_decides c.is_hittable_with.result _ d (hittable-decides c.args.f _); meaning = d }

@@ -7,7 +7,7 @@ use Rattle.pathsets.specs.Families.{singles}
 use Rattle.pathsets.specs.Keys.{sets_of}
 use Rattle.pathsets.proofs.Singles.{singles-more-lone, singles-more-many, singles-more-out}
 use Rattle.pathsets.proofs.telling.alone.Goals as goal
-use Rattle.pathsets.proofs.telling.alone.Goals.{then-is-for+then-count-eq1, else-is-for, else-is-for-via-then-is-for+else-count-eq1, else-is-for-via-else-is-for}
+use Rattle.pathsets.proofs.telling.alone.Goals.{then-is_for+then-count-eq1, else-is_for, else-is_for-via-then-is_for+else-count-eq1, else-is_for-via-else-is_for}
 
 pub loop-row-preserved : goal.loop-row-preserved
 loop-row-preserved c =
@@ -16,14 +16,14 @@ loop-row-preserved c =
     let rs = c.args.rows.now in
     let i = c.loop-row.row-index in
     let l = c.loop-row-test.true in
-    elim c.if-is-for.branch [
-      | then-is-for+then-count-eq1 w ↦
-          w.craft_is ∙ ap (λ (s : ℕ). union s (get_or rs i no_row).held) c.loop-row.invariant
-          ∙ sym (singles-more-lone a x rs i no_row l (sym w.if-is-for.ensures) (sym w.count.ensures ∙ w.if-count-eq1.true))
-      | else-is-for w ↦
-          w.craft_is ∙ c.loop-row.invariant ∙ elim w.else-is-for.branch [
-            | else-is-for-via-then-is-for+else-count-eq1 v ↦ sym (singles-more-many a x rs i no_row l (sym v.if-is-for.ensures) (λ e. v.if-count-eq1.false (v.count.ensures ∙ e)))
-            | else-is-for-via-else-is-for v ↦ sym (singles-more-out a x rs i no_row l (sym v.if-is-for.ensures))
+    elim c.if-is_for.branch [
+      | then-is_for+then-count-eq1 w ↦
+          w.craft-is ∙ ap (λ (s : ℕ). union s (get_or rs i no_row).held) c.loop-row.invariant
+          ∙ sym (singles-more-lone a x rs i no_row l (sym w.if-is_for.ensures) (sym w.count.ensures ∙ w.if-count-eq1.true))
+      | else-is_for w ↦
+          w.craft-is ∙ c.loop-row.invariant ∙ elim w.else-is_for.branch [
+            | else-is_for-via-then-is_for+else-count-eq1 v ↦ sym (singles-more-many a x rs i no_row l (sym v.if-is_for.ensures) (λ e. v.if-count-eq1.false (v.count.ensures ∙ e)))
+            | else-is_for-via-else-is_for v ↦ sym (singles-more-out a x rs i no_row l (sym v.if-is_for.ensures))
           ]
     ]
 
