@@ -6,7 +6,7 @@ use Rattle.relaying.proofs.relay_laws.Goals as goal
 pub returns : goal.returns
 returns c = record {
   answer = refl;
-  laws = laws.relay_laws;
+  laws = laws.relay_laws_lem;
   kept = laws.kept-reached;
   carries = answers.carry-answers;
   says = answers.say-adds;
