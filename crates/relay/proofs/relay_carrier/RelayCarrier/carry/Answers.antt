@@ -17,27 +17,27 @@ use Rattle.relay.proofs.Carrying.{out-is, carried_on, stopped, put-taken, told_i
 use Rattle.relay.specs.Steps.{fits_on, carry-quiet, carry-hears}
 use Rattle.relay.proofs.relay_carrier.RelayCarrier.carry.Goals as goal
 
-pub returns-in-err-pass-on : goal.returns-in-err-pass-on
-returns-in-err-pass-on g c =
+pub returns-in_err-pass_on : goal.returns-in_err-pass_on
+returns-in_err-pass_on g c =
     let m = g.L.LinkService.meaning in
     let d = c.args.self.now in
     let p = parts m d.base in
     let k = c.args.k in
-    let e = c.in-ok-entry.entry in
-    let o = c.take-in-at-out.result in
+    let e = c.in_ok-entry.entry in
+    let o = c.take_in_at-out.result in
     let w = m c.take.new.self in
-    let at = c.take-in-at-out.new.table.at in
-    let take = c.in-ok-entry.ensures in
-    let ok = judged-carry k c.waiting-waiting.ensures c.spare-spare.ensures c.in-ok-judge-carry.ensures in
+    let at = c.take_in_at-out.new.table.at in
+    let take = c.in_ok-entry.ensures in
+    let ok = judged-carry k c.waiting-waiting.ensures c.spare-spare.ensures c.in_ok-judge_carry.ensures in
     let may = may_carry (means m d).waiting (means m d).spare k ok in
     let free : 0 < fewest d.base.table.at = omega (arith, may.room) in
     let is = c.row.ensures.answer in
-    let takes = c.take-in-at-out.ensures in
-    let x = err_from_is_err_and c.from-residual-in-err-pass-on.result c.from-residual-in-err-pass-on.ensures.1 in
-    let w' = m c.pass-on.new.links in
+    let takes = c.take_in_at-out.ensures in
+    let x = err_from_is_err_and c.from_residual-in_err-pass_on.result c.from_residual-in_err-pass_on.ensures.1 in
+    let w' = m c.pass_on.new.links in
     let p' : Parts = record { links = w'; shelves = at; astray = d.base.astray } in
-    let d' : Relay g.row.L.Denot = record { base = record { links = c.pass-on.new.links; table = c.take-in-at-out.new.table; astray = d.base.astray }; passed = d.passed } in
-    let refused = subst (λ (f : Fault). PassesOn w e o (Err f) w') (sym x.2) c.in-err-pass-on.ensures in
+    let d' : Relay g.row.L.Denot = record { base = record { links = c.pass_on.new.links; table = c.take_in_at-out.new.table; astray = d.base.astray }; passed = d.passed } in
+    let refused = subst (λ (f : Fault). PassesOn w e o (Err f) w') (sym x.2) c.in_err-pass_on.ensures in
     let error = λ (P : Result (Option Heard) Fault → Type 0) (h : P (Err x.0)). subst P (sym x.1) h in
     record {
       step = λ s. never _ _ (put-taken d.passed p k e w at o c.row.result _ is free take takes s.rows may.room refused.0) refused.2;
@@ -53,19 +53,19 @@ returns-then-not-out g c =
     let d = c.args.self.now in
     let p = parts m d.base in
     let k = c.args.k in
-    let e = c.in-ok-entry.entry in
-    let o = c.take-in-at-out.result in
+    let e = c.in_ok-entry.entry in
+    let o = c.take_in_at-out.result in
     let w = m c.take.new.self in
-    let at = c.take-in-at-out.new.table.at in
-    let w' = m c.pass-on.new.links in
+    let at = c.take_in_at-out.new.table.at in
+    let w' = m c.pass_on.new.links in
     let p' : Parts = record { links = w'; shelves = at; astray = d.base.astray } in
-    let take = c.in-ok-entry.ensures in
-    let ok = judged-carry k c.waiting-waiting.ensures c.spare-spare.ensures c.in-ok-judge-carry.ensures in
+    let take = c.in_ok-entry.ensures in
+    let ok = judged-carry k c.waiting-waiting.ensures c.spare-spare.ensures c.in_ok-judge_carry.ensures in
     let may = may_carry (means m d).waiting (means m d).spare k ok in
     let free : 0 < fewest d.base.table.at = omega (arith, may.room) in
     let is = c.row.ensures.answer in
-    let takes = c.take-in-at-out.ensures in
-    let on = c.in-ok-pass-on.ensures in
+    let takes = c.take_in_at-out.ensures in
+    let on = c.in_ok-pass_on.ensures in
     let quiet = ap (λ (r : Outcome). r.heard) (sym (out-is d.passed p k e w at o c.row.result _ is free take takes)) ∙ c.if-not-out.true in
     let answer = sym (quiet_told d.passed p e quiet) in
     let co : CarriedOn d.passed p k e None p' = carried_on d.passed p k e w at o c.row.result _ is free take takes w' tt on None answer in
@@ -83,19 +83,19 @@ returns g c =
     let d = c.args.self.now in
     let p = parts m d.base in
     let k = c.args.k in
-    let e = c.in-ok-entry.entry in
-    let o = c.take-in-at-out.result in
+    let e = c.in_ok-entry.entry in
+    let o = c.take_in_at-out.result in
     let w = m c.take.new.self in
-    let at = c.take-in-at-out.new.table.at in
-    let w' = m c.pass-on.new.links in
+    let at = c.take_in_at-out.new.table.at in
+    let w' = m c.pass_on.new.links in
     let p' : Parts = record { links = w'; shelves = at; astray = d.base.astray } in
-    let take = c.in-ok-entry.ensures in
-    let ok = judged-carry k c.waiting-waiting.ensures c.spare-spare.ensures c.in-ok-judge-carry.ensures in
+    let take = c.in_ok-entry.ensures in
+    let ok = judged-carry k c.waiting-waiting.ensures c.spare-spare.ensures c.in_ok-judge_carry.ensures in
     let may = may_carry (means m d).waiting (means m d).spare k ok in
     let free : 0 < fewest d.base.table.at = omega (arith, may.room) in
     let is = c.row.ensures.answer in
-    let takes = c.take-in-at-out.ensures in
-    let on = c.in-ok-pass-on.ensures in
+    let takes = c.take_in_at-out.ensures in
+    let on = c.in_ok-pass_on.ensures in
     let hears = ap (λ (r : Outcome). r.heard) (sym (out-is d.passed p k e w at o c.row.result _ is free take takes)) ∙ c.if-not-out.false in
     let answer = sym (heard-told d.passed p e hears) in
     let co : CarriedOn d.passed p k e (Some (heard_by e)) p' = carried_on d.passed p k e w at o c.row.result _ is free take takes w' tt on (Some (heard_by e)) answer in
