@@ -3,13 +3,13 @@
 --   Clear           no cause of a list holds
 --   clear           where none is answered, none holds
 --   accepts         where none holds, none is answered
---   clear-rest      causes behind others
+--   clear_rest      causes behind others
 --   clear-append    causes of two lists, one after the other
---   refused-front   what the first list answers, both answer
+--   refused_front   what the first list answers, both answer
 --   refused_back    where the first answers nothing, both answer what the second does
---   refused-parts   what both answer, the first does; or it answers nothing, and the second does
---   word-clear      where a word has no refusal, it is no cause
---   clear-word      a word that is no cause has no refusal
+--   refused_parts   what both answer, the first does; or it answers nothing, and the second does
+--   word_clear      where a word has no refusal, it is no cause
+--   clear_word      a word that is no cause has no refusal
 use Rattle.std.proofs.Common.{◌≡◌, ℕ, true, false, ◌⊎◌, List, [], ◌∷◌, ◌++◌, Some, None, Option, sym, refl, ◌∙◌, inl, inr, ⊎_elim, arith}
 use Rattle.std.proofs.lemmas.Bool.{cases_Bool, cond-true, cond-false, true≢false}
 use Rattle.refusals.specs.Refusals.{Told, Cause, refusal}
@@ -31,19 +31,19 @@ pub accepts : (cs : List Cause) → Clear cs → refusal cs ≡ None
 accepts [] h = refl
 accepts (c ∷ cs) h = cond-false c.holds (Some c.tells) (refusal cs) h.0 ∙ accepts cs h.1
 
-pub clear-rest : (cs ds : List Cause) → Clear (cs ++ ds) → Clear cs × Clear ds
-clear-rest [] ds h = (tt, h)
-clear-rest (c ∷ cs) ds h = let r = clear-rest cs ds h.1 in ((h.0, r.0), r.1)
+pub clear_rest : (cs ds : List Cause) → Clear (cs ++ ds) → Clear cs × Clear ds
+clear_rest [] ds h = (tt, h)
+clear_rest (c ∷ cs) ds h = let r = clear_rest cs ds h.1 in ((h.0, r.0), r.1)
 
 pub clear-append : (cs ds : List Cause) → Clear cs → Clear ds → Clear (cs ++ ds)
 clear-append [] ds h i = i
 clear-append (c ∷ cs) ds h i = (h.0, clear-append cs ds h.1 i)
 
-pub refused-front : (cs ds : List Cause) (v : Told) → refusal cs ≡ Some v → refusal (cs ++ ds) ≡ Some v
-refused-front [] ds v e = absurd (none≢some e)
-refused-front (c ∷ cs) ds v e = ⊎_elim
+pub refused_front : (cs ds : List Cause) (v : Told) → refusal cs ≡ Some v → refusal (cs ++ ds) ≡ Some v
+refused_front [] ds v e = absurd (none≢some e)
+refused_front (c ∷ cs) ds v e = ⊎_elim
     (λ (i : c.holds ≡ true). cond-true c.holds (Some c.tells) (refusal (cs ++ ds)) i ∙ sym (cond-true c.holds (Some c.tells) (refusal cs) i) ∙ e)
-    (λ i. cond-false c.holds (Some c.tells) (refusal (cs ++ ds)) i ∙ refused-front cs ds v (sym (cond-false c.holds (Some c.tells) (refusal cs) i) ∙ e))
+    (λ i. cond-false c.holds (Some c.tells) (refusal (cs ++ ds)) i ∙ refused_front cs ds v (sym (cond-false c.holds (Some c.tells) (refusal cs) i) ∙ e))
     (cases_Bool c.holds)
 
 pub refused_back : (cs ds : List Cause) → refusal cs ≡ None → refusal (cs ++ ds) ≡ refusal ds
@@ -52,22 +52,22 @@ refused_back (c ∷ cs) ds e =
     let h = passed c.holds c.tells (refusal cs) e in
     cond-false c.holds (Some c.tells) (refusal (cs ++ ds)) h.0 ∙ refused_back cs ds h.1
 
-pub refused-parts : (cs ds : List Cause) (v : Told) → refusal (cs ++ ds) ≡ Some v → (refusal cs ≡ Some v) ⊎ ((refusal cs ≡ None) × (refusal ds ≡ Some v))
-refused-parts [] ds v e = inr (refl, e)
-refused-parts (c ∷ cs) ds v e = ⊎_elim
+pub refused_parts : (cs ds : List Cause) (v : Told) → refusal (cs ++ ds) ≡ Some v → (refusal cs ≡ Some v) ⊎ ((refusal cs ≡ None) × (refusal ds ≡ Some v))
+refused_parts [] ds v e = inr (refl, e)
+refused_parts (c ∷ cs) ds v e = ⊎_elim
     (λ (i : c.holds ≡ true). inl (cond-true c.holds (Some c.tells) (refusal cs) i ∙ sym (cond-true c.holds (Some c.tells) (refusal (cs ++ ds)) i) ∙ e))
     (λ i.
     let past = cond-false c.holds (Some c.tells) (refusal cs) i in
     ⊎_elim
     (λ (h : refusal cs ≡ Some v). inl (past ∙ h))
     (λ h. inr (past ∙ h.0, h.1))
-    (refused-parts cs ds v (sym (cond-false c.holds (Some c.tells) (refusal (cs ++ ds)) i) ∙ e)))
+    (refused_parts cs ds v (sym (cond-false c.holds (Some c.tells) (refusal (cs ++ ds)) i) ∙ e)))
     (cases_Bool c.holds)
 
-pub word-clear : (r : Option Told) → r ≡ None → Clear (word_cause r)
-word-clear None e = tt
-word-clear (Some v) e = absurd (true≢false (passed true v None e).0)
+pub word_clear : (r : Option Told) → r ≡ None → Clear (word_cause r)
+word_clear None e = tt
+word_clear (Some v) e = absurd (true≢false (passed true v None e).0)
 
-pub clear-word : (r : Option Told) → Clear (word_cause r) → r ≡ None
-clear-word None h = refl
-clear-word (Some v) h = absurd (true≢false h.0)
+pub clear_word : (r : Option Told) → Clear (word_cause r) → r ≡ None
+clear_word None h = refl
+clear_word (Some v) h = absurd (true≢false h.0)

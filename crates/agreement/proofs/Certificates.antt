@@ -8,14 +8,14 @@ use Rattle.std.proofs.Common.{◌≡◌, ℕ, ◌+◌, ◌^◌, ◌<◌, ◌≤�
 use Rattle.std.proofs.lemmas.Bool.{leb-true, and_parts, not-true, both_ways}
 use Rattle.sets.specs.Sets.{count, bit, In, passing}
 use Rattle.sets.specs.Quorums.{quorum}
-use Rattle.sets.proofs.Passing.{passing-lt, passing-in, one_passes-outside}
+use Rattle.sets.proofs.Passing.{passing_lt, passing_in, one_passes_outside}
 use Rattle.frames.specs.declared.notes.Step.{Step}
 use Rattle.frames.specs.declared.notes.Step.TheVariants.{Send, Echo, Ready}
 use Rattle.frames.specs.Notes.{note}
 use Rattle.agreement.specs.Meanings.{Meaning, Honest, Lawful}
 use Rattle.agreement.specs.Votes.{Tally, present, is, backers, says_echo, echo_after, ready_heard, ready_due, says_ready, ready_after}
-use Rattle.agreement.proofs.FirstVotes.{is_true, present-some}
-use Rattle.agreement.proofs.Turns.{grows-own}
+use Rattle.agreement.proofs.FirstVotes.{is_true, present_some}
+use Rattle.agreement.proofs.Turns.{grows_own}
 use Rattle.agreement.proofs.HeardVotes.{Matches}
 
 -- a quorum of which all that are not astray have echoed w
@@ -41,10 +41,10 @@ module _ (n f : ℕ) (m : Meaning) (o k w : ℕ) (law : Lawful m) (size : m.n �
   unfolding backers
   by_echoes F h e = record {
     voters = passing n (λ b. is (F b) w);
-    within = passing-lt n (λ b. is (F b) w);
+    within = passing_lt n (λ b. is (F b) w);
     many = e;
     said = λ b i j.
-        let r = passing-in n (λ c. is (F c) w) b i in
+        let r = passing_in n (λ c. is (F c) w) b i in
         law.nothing_invented l b (note Echo o k w) hl (honest_by b r.0 j) (h.heard b w (is_true (F b) w r.1));
   }
 
@@ -53,11 +53,11 @@ module _ (n f : ℕ) (m : Meaning) (o k w : ℕ) (law : Lawful m) (size : m.n �
       → ((b : ℕ) → Honest m b → (b ≡ l → ⊥) → m.heard b b (note Ready o k w) ≡ true → Certificate n f m o k w) → Certificate n f m o k w
   unfolding backers
   by_readies F G none keeps h e others =
-      let r = one_passes-outside n f m.astray (λ b. is (F b) w) (omega (arith, e)) few in
+      let r = one_passes_outside n f m.astray (λ b. is (F b) w) (omega (arith, e)) few in
       let b = r.0 in
       let hb = honest_by b r.1 r.3 in
       let v = is_true (F b) w r.2 in
-      others b hb (λ q. both_ways (present (F l)) none (ap (λ (i : ℕ). present (F i)) (sym q) ∙ present-some v))
+      others b hb (λ q. both_ways (present (F l)) none (ap (λ (i : ℕ). present (F i)) (sym q) ∙ present_some v))
       (law.nothing_invented l b (note Ready o k w) hl hb (h.heard b w (keeps b w v)))
 
   pub certified : (a : ℕ) (t : Tally) (x : Step) → says_ready n f l a w t x ≡ true
@@ -70,4 +70,4 @@ module _ (n f : ℕ) (m : Meaning) (o k w : ℕ) (law : Lawful m) (size : m.n �
   certified a t Ready e he hr others =
       by_readies (ready_heard n f l a w t Ready) (ready_after n f l a w t Ready)
       (not-true (present (ready_heard n f l a w t Ready l)) (and_parts (ready_due n f l a w t Ready) _ e).1)
-      (grows-own n f l a w t Ready).keeps hr (leb-true _ _ (and_parts (ready_due n f l a w t Ready) _ e).0) others
+      (grows_own n f l a w t Ready).keeps hr (leb-true _ _ (and_parts (ready_due n f l a w t Ready) _ e).0) others

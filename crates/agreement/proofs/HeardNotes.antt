@@ -1,6 +1,6 @@
 -- What is heard once a note is heard, and once the listener has said what its turn says. Assumes nothing.
 --   adds_cases       what is heard now was heard, or is the one addition
---   adds-keeps, adds_it
+--   adds_keeps, adds_it
 --                    what was heard stays, and the addition is heard
 --   Own              one of the two notes that a turn can say
 --   Spoken           the effect of all that a turn says
@@ -11,7 +11,7 @@ use Rattle.frames.specs.declared.notes.Step.{Step}
 use Rattle.frames.specs.declared.notes.Step.TheVariants.{Send, Echo, Ready}
 use Rattle.frames.specs.declared.notes.Note.{Note}
 use Rattle.frames.specs.Notes.{step_byte, note, same_note}
-use Rattle.frames.proofs.NoteLaws.{same-note-eq, same-note_self}
+use Rattle.frames.proofs.NoteLaws.{same_note_eq, same_note_self}
 use Rattle.agreement.specs.Meanings.{Meaning}
 use Rattle.agreement.specs.Carrying.{Adds, Said, Fixed}
 use Rattle.agreement.specs.Flights.{Saying, flag}
@@ -25,14 +25,14 @@ module _ {m m' : Meaning} {l a : ℕ} {t : Note} (adds : Adds m l a t m') where
       (λ e.
       let x = and_parts (eqb l p) _ e in
       let y = and_parts (eqb a c) _ x.1 in
-      inr (eqb-true l p x.0, eqb-true a c y.0, same-note-eq t u y.1))
+      inr (eqb-true l p x.0, eqb-true a c y.0, same_note_eq t u y.1))
       (or_cases (m.heard p c u) _ (sym (adds.at p c u) ∙ h))
 
-  pub adds-keeps : (p c : ℕ) (u : Note) → m.heard p c u ≡ true → m'.heard p c u ≡ true
-  adds-keeps p c u h = adds.at p c u ∙ or_left (m.heard p c u) _ h
+  pub adds_keeps : (p c : ℕ) (u : Note) → m.heard p c u ≡ true → m'.heard p c u ≡ true
+  adds_keeps p c u h = adds.at p c u ∙ or_left (m.heard p c u) _ h
 
   pub adds_it : m'.heard l a t ≡ true
-  adds_it = adds.at l a t ∙ or_right (m.heard l a t) _ (and_from _ _ (eq-eqb l l refl) (and_from _ _ (eq-eqb a a refl) (same-note_self t)))
+  adds_it = adds.at l a t ∙ or_right (m.heard l a t) _ (and_from _ _ (eq-eqb l l refl) (and_from _ _ (eq-eqb a a refl) (same_note_self t)))
 
 -- ---- what l says, if it echoes (e) and readies (r)
 
@@ -59,8 +59,8 @@ spoken g m l true true o k w m' (m₁, x, (m₂, y, q)) =
       fixed = fixed_then x.fixed z.fixed;
       astray = z.astray ∙ x.astray;
       toil = omega (arith, x.toil, z.toil);
-      keeps = λ p c u h. adds-keeps z.heard p c u (adds-keeps x.heard p c u h);
-      echo = λ _. adds-keeps z.heard l l (note Echo o k w) (adds_it x.heard);
+      keeps = λ p c u h. adds_keeps z.heard p c u (adds_keeps x.heard p c u h);
+      echo = λ _. adds_keeps z.heard l l (note Echo o k w) (adds_it x.heard);
       ready = λ _. adds_it z.heard;
       only = λ p c u h. ⊎_elim
           (λ (i : m₁.heard p c u ≡ true). ⊎_elim inl (λ (j : (l ≡ p) × (l ≡ c) × (note Echo o k w ≡ u)). inr (j.0, j.1, inl (refl, j.2))) (adds_cases x.heard p c u i))
@@ -73,7 +73,7 @@ spoken g m l true false o k w m' (m₁, x, q) =
       fixed = z.fixed;
       astray = z.astray;
       toil = omega (arith, z.toil);
-      keeps = λ p c u h. adds-keeps z.heard p c u h;
+      keeps = λ p c u h. adds_keeps z.heard p c u h;
       echo = λ _. adds_it z.heard;
       ready = λ i. absurd (true≢false (sym i));
       only = λ p c u h. ⊎_elim inl (λ (j : (l ≡ p) × (l ≡ c) × (note Echo o k w ≡ u)). inr (j.0, j.1, inl (refl, j.2))) (adds_cases z.heard p c u h);
@@ -84,7 +84,7 @@ spoken g m l false true o k w m' (m₁, x, q) =
       fixed = z.fixed;
       astray = z.astray;
       toil = omega (arith, z.toil);
-      keeps = λ p c u h. adds-keeps z.heard p c u h;
+      keeps = λ p c u h. adds_keeps z.heard p c u h;
       echo = λ i. absurd (true≢false (sym i));
       ready = λ _. adds_it z.heard;
       only = λ p c u h. ⊎_elim inl (λ (j : (l ≡ p) × (l ≡ c) × (note Ready o k w ≡ u)). inr (j.0, j.1, inr (refl, j.2))) (adds_cases z.heard p c u h);

@@ -9,7 +9,7 @@
 --   lawful            it keeps the laws
 --   said_net          the carrier once a has said t, and `said` that it is a say's step
 --   say               a say's step, whether or not the note was said before
---   say-all           the steps of a craft that says two notes, one of them or none
+--   say_all_lem           the steps of a craft that says two notes, one of them or none
 --   heard_net         the carrier once the oldest triple is heard, and `hears-first` that it is a carry's step
 --   take-first        a carry's step, whether or not it lets anybody hear
 --   meddled_net       the carrier once c has meddled its note t to another craft, and `meddles` that it is a meddle's step
@@ -17,14 +17,14 @@
 use Rattle.std.proofs.Common.{◌≡◌, ℕ, zero, suc, ◌<◌, Bool, true, false, cond, ◌&&◌, ◌||◌, eqb, ◌⊎◌, List, [], ◌∷◌, ◌++◌, length, sym, refl, ap, ◌∙◌, subst, inl, inr, ⊎_elim, arith, length-append}
 use Rattle.std.proofs.lemmas.Bool.{cases_Bool, or_left, or_from, and_parts, eqb-true, both_ways}
 use Rattle.sets.specs.Sets.{bit, In, only, adding}
-use Rattle.sets.proofs.Members.{has_in, within_in, union-within-left, adding-has}
+use Rattle.sets.proofs.Members.{has_in, within_in, union_within_left, adding-has}
 use Rattle.frames.specs.declared.notes.Note.{Note}
 use Rattle.frames.specs.Notes.{sound, same_note}
 use Rattle.agreement.specs.Meanings.{Meaning, Lawful, Fresh}
 use Rattle.agreement.specs.Carrying.{Adds, Said, Quiet, Hears, Meddled, Fixed}
 use Rattle.agreement.specs.Flights.{Saying}
-use Rattle.frames.proofs.NoteLaws.{same-note-eq}
-use Rattle.agreement.proofs.HeardNotes.{adds_cases, adds-keeps, adds_it}
+use Rattle.frames.proofs.NoteLaws.{same_note_eq}
+use Rattle.agreement.proofs.HeardNotes.{adds_cases, adds_keeps, adds_it}
 
 pub record Triple : Type 0 where
   pub listener : ℕ
@@ -90,8 +90,8 @@ waits_cases z [] ys w = inr w
 waits_cases z (x ∷ xs) ys w = ⊎_elim (λ e. inl (inl e)) (λ (i : Waits z (xs ++ ys)). ⊎_elim (λ j. inl (inr j)) inr (waits_cases z xs ys i)) w
 
 -- what waits stays good as more is heard and more go astray
-pub good-still : {s s' : ℕ} {h h' : ℕ → ℕ → Note → Bool} {l a : ℕ} {t : Note} → (h a a t ≡ true → h' a a t ≡ true) → (In a s → In a s') → Good s h l a t → Good s' h' l a t
-good-still keeps more g = record {
+pub good_still : {s s' : ℕ} {h h' : ℕ → ℕ → Note → Bool} {l a : ℕ} {t : Note} → (h a a t ≡ true → h' a a t ≡ true) → (In a s → In a s') → Good s h l a t → Good s' h' l a t
+good_still keeps more g = record {
   listener = g.listener;
   author = g.author;
   sound = g.sound;
@@ -103,19 +103,19 @@ good-still keeps more g = record {
 abbrev pub with : (ℕ → ℕ → Note → Bool) → ℕ → ℕ → Note → ℕ → ℕ → Note → Bool
 with h l a t l' a' t' = h l' a' t' || (eqb l l' && (eqb a a' && same_note t t'))
 
-pub with-adds : (q q' : List Triple) (s : ℕ) (h : ℕ → ℕ → Note → Bool) (l a : ℕ) (t : Note) → Adds (shape q s h) l a t (shape q' s (with h l a t))
-with-adds q q' s h l a t = record { at = λ l' a' t'. refl }
+pub with_adds : (q q' : List Triple) (s : ℕ) (h : ℕ → ℕ → Note → Bool) (l a : ℕ) (t : Note) → Adds (shape q s h) l a t (shape q' s (with h l a t))
+with_adds q q' s h l a t = record { at = λ l' a' t'. refl }
 
 -- what was heard already adds nothing
-adds-nothing : (x : Net) (l a : ℕ) (t : Note) → x.heard l a t ≡ true → Adds (mean x) l a t (mean x)
-adds-nothing x l a t e = record {
+adds_nothing : (x : Net) (l a : ℕ) (t : Note) → x.heard l a t ≡ true → Adds (mean x) l a t (mean x)
+adds_nothing x l a t e = record {
   at = λ l' a' t'. ⊎_elim
       (λ (i : x.heard l' a' t' ≡ true). i ∙ sym (or_left (x.heard l' a' t') _ i))
       (λ i. ⊎_elim
       (λ (j : (eqb l l' && (eqb a a' && same_note t t')) ≡ true).
       let p = and_parts (eqb l l') _ j in
       let q = and_parts (eqb a a') _ p.1 in
-      absurd (both_ways (x.heard l' a' t') i ((λ z. x.heard (sym (eqb-true l l' p.0) z) (sym (eqb-true a a' q.0) z) (sym (same-note-eq t t' q.1) z)) ∙ e)))
+      absurd (both_ways (x.heard l' a' t') i ((λ z. x.heard (sym (eqb-true l l' p.0) z) (sym (eqb-true a a' q.0) z) (sym (same_note_eq t t' q.1) z)) ∙ e)))
       (λ j. i ∙ sym (or_from (x.heard l' a' t') _ i j))
       (cases_Bool (eqb l l' && (eqb a a' && same_note t t'))))
       (cases_Bool (x.heard l' a' t'));
@@ -126,12 +126,12 @@ adds-nothing x l a t e = record {
 abbrev pub spread : ℕ → Note → List Triple
 spread a t = triple 0 a t ∷ triple 1 a t ∷ triple 2 a t ∷ triple 3 a t ∷ []
 
-pub spread-has : (l a : ℕ) (t : Note) → l < 4 → Waits (triple l a t) (spread a t)
-spread-has zero a t h = inl refl
-spread-has (suc zero) a t h = inr (inl refl)
-spread-has (suc (suc zero)) a t h = inr (inr (inl refl))
-spread-has (suc (suc (suc zero))) a t h = inr (inr (inr (inl refl)))
-spread-has (suc (suc (suc (suc l)))) a t h = absurd (omega arith)
+pub spread_has : (l a : ℕ) (t : Note) → l < 4 → Waits (triple l a t) (spread a t)
+spread_has zero a t h = inl refl
+spread_has (suc zero) a t h = inr (inl refl)
+spread_has (suc (suc zero)) a t h = inr (inr (inl refl))
+spread_has (suc (suc (suc zero))) a t h = inr (inr (inr (inl refl)))
+spread_has (suc (suc (suc (suc l)))) a t h = absurd (omega arith)
 
 -- a new entry is (c, a, t) for some craft c
 pub spread_cases : (l b : ℕ) (u : Note) (a : ℕ) (t : Note) → Waits (triple l b u) (spread a t) → (l < 4) × (a ≡ b) × (t ≡ u)
@@ -143,24 +143,24 @@ spread_cases l b u a t =
 abbrev pub said_net : (x : Net) (a : ℕ) (t : Note) → a < 4 → sound 4 a t ≡ true → Net
 said_net x a t ha ht =
     let h = with x.heard a a t in
-    let adds = with-adds x.queue (x.queue ++ spread a t) x.astray x.heard a a t in
+    let adds = with_adds x.queue (x.queue ++ spread a t) x.astray x.heard a a t in
     record {
       queue = x.queue ++ spread a t;
       astray = x.astray;
       heard = h;
       true_said = λ l b u loyal e. ⊎_elim
-          (λ (i : x.heard l b u ≡ true). adds-keeps adds b b u (x.true_said l b u loyal i))
+          (λ (i : x.heard l b u ≡ true). adds_keeps adds b b u (x.true_said l b u loyal i))
           (λ i. (λ z. h (sym i.1 z) (sym i.1 z) (sym i.2 z)) ∙ adds_it adds)
           (adds_cases adds l b u e);
       coming = λ l b u hl e. ⊎_elim
           (λ (i : x.heard b b u ≡ true). ⊎_elim
-          (λ (j : x.heard l b u ≡ true). inl (adds-keeps adds l b u j))
+          (λ (j : x.heard l b u ≡ true). inl (adds_keeps adds l b u j))
           (λ j. inr (waits_front (triple l b u) x.queue (spread a t) j))
           (x.coming l b u hl i))
-          (λ i. inr (waits_back (triple l b u) x.queue (spread a t) (subst (λ (z : Triple). Waits z (spread a t)) (λ z. triple l (i.1 z) (i.2 z)) (spread-has l a t hl))))
+          (λ i. inr (waits_back (triple l b u) x.queue (spread a t) (subst (λ (z : Triple). Waits z (spread a t)) (λ z. triple l (i.1 z) (i.2 z)) (spread_has l a t hl))))
           (adds_cases adds b b u e);
       good = λ l b u w. ⊎_elim
-          (λ (i : Waits (triple l b u) x.queue). good-still (λ j. adds-keeps adds b b u j) (λ j. j) (x.good l b u i))
+          (λ (i : Waits (triple l b u) x.queue). good_still (λ j. adds_keeps adds b b u j) (λ j. j) (x.good l b u i))
           (λ i. let r = spread_cases l b u a t i in
           record {
             listener = r.0;
@@ -174,7 +174,7 @@ said_net x a t ha ht =
 pub said : (x : Net) (a : ℕ) (t : Note) (ha : a < 4) (ht : sound 4 a t ≡ true) → x.heard a a t ≡ false → Said 4 (mean x) a t (mean (said_net x a t ha ht))
 said x a t ha ht new = record {
   fixed = fixed x (said_net x a t ha ht);
-  heard = with-adds x.queue (x.queue ++ spread a t) x.astray x.heard a a t;
+  heard = with_adds x.queue (x.queue ++ spread a t) x.astray x.heard a a t;
   again = λ e. absurd (both_ways (x.heard a a t) new e);
   astray = refl;
   toil = omega (arith, length-append x.queue (spread a t));
@@ -184,15 +184,15 @@ said x a t ha ht new = record {
 pub say : (x : Net) (a : ℕ) (t : Note) → a < 4 → sound 4 a t ≡ true → (y : Net) × Said 4 (mean x) a t (mean y)
 say x a t ha ht = ⊎_elim
     (λ (e : x.heard a a t ≡ true).
-    (x, record { fixed = fixed x x; heard = adds-nothing x a a t e; again = λ _. refl; astray = refl; toil = omega arith; spare = omega arith }))
+    (x, record { fixed = fixed x x; heard = adds_nothing x a a t e; again = λ _. refl; astray = refl; toil = omega arith; spare = omega arith }))
     (λ e. (said_net x a t ha ht, said x a t ha ht e))
     (cases_Bool (x.heard a a t))
 
-pub say-all : (x : Net) (a : ℕ) (e r : Bool) (t u : Note) → a < 4 → sound 4 a t ≡ true → sound 4 a u ≡ true → (y : Net) × Saying 4 (mean x) a (cond e (t ∷ []) [] ++ cond r (u ∷ []) []) (mean y)
-say-all x a true true t u ha ht hu = let y = say x a t ha ht in let z = say y.0 a u ha hu in (z.0, (mean y.0, y.1, (mean z.0, z.1, refl)))
-say-all x a true false t u ha ht hu = let y = say x a t ha ht in (y.0, (mean y.0, y.1, refl))
-say-all x a false true t u ha ht hu = let y = say x a u ha hu in (y.0, (mean y.0, y.1, refl))
-say-all x a false false t u ha ht hu = (x, refl)
+pub say_all_lem : (x : Net) (a : ℕ) (e r : Bool) (t u : Note) → a < 4 → sound 4 a t ≡ true → sound 4 a u ≡ true → (y : Net) × Saying 4 (mean x) a (cond e (t ∷ []) [] ++ cond r (u ∷ []) []) (mean y)
+say_all_lem x a true true t u ha ht hu = let y = say x a t ha ht in let z = say y.0 a u ha hu in (z.0, (mean y.0, y.1, (mean z.0, z.1, refl)))
+say_all_lem x a true false t u ha ht hu = let y = say x a t ha ht in (y.0, (mean y.0, y.1, refl))
+say_all_lem x a false true t u ha ht hu = let y = say x a u ha hu in (y.0, (mean y.0, y.1, refl))
+say_all_lem x a false false t u ha ht hu = (x, refl)
 
 -- ---- carry, of the oldest that waits
 
@@ -210,8 +210,8 @@ module _ (x : Net) (z : Triple) (zs : List Triple) (e : x.queue ≡ z ∷ zs) wh
   oldest = x.good z.listener z.author z.said (subst (λ (i : List Triple). Waits z i) (sym e) (inl refl))
 
   -- it was heard before: it is only taken away
-  dropped-net : x.heard z.listener z.author z.said ≡ true → Net
-  dropped-net i = record {
+  dropped_net : x.heard z.listener z.author z.said ≡ true → Net
+  dropped_net i = record {
     queue = zs;
     astray = x.astray;
     heard = x.heard;
@@ -222,9 +222,9 @@ module _ (x : Net) (z : Triple) (zs : List Triple) (e : x.queue ≡ z ∷ zs) wh
     good = λ l b u w. x.good l b u (more (triple l b u) w);
   }
 
-  moves : (i : x.heard z.listener z.author z.said ≡ true) → Quiet (mean x) (mean (dropped-net i))
-  unfolding dropped-net
-  moves i = record { fixed = fixed x (dropped-net i); heard = record { at = λ _ _ _. refl }; astray = refl; toil = omega (arith, fewer); spare = omega arith }
+  moves : (i : x.heard z.listener z.author z.said ≡ true) → Quiet (mean x) (mean (dropped_net i))
+  unfolding dropped_net
+  moves i = record { fixed = fixed x (dropped_net i); heard = record { at = λ _ _ _. refl }; astray = refl; toil = omega (arith, fewer); spare = omega arith }
 
   module _ (new : x.heard z.listener z.author z.said ≡ false) where
     pub apart : z.listener ≡ z.author → ⊥
@@ -235,27 +235,27 @@ module _ (x : Net) (z : Triple) (zs : List Triple) (e : x.queue ≡ z ∷ zs) wh
 
     abbrev pub heard_net : Net
     heard_net =
-        let adds = with-adds x.queue zs x.astray x.heard z.listener z.author z.said in
+        let adds = with_adds x.queue zs x.astray x.heard z.listener z.author z.said in
         let h = with x.heard z.listener z.author z.said in
         record {
           queue = zs;
           astray = x.astray;
           heard = h;
           true_said = λ l b u loyal k. ⊎_elim
-              (λ (j : x.heard l b u ≡ true). adds-keeps adds b b u (x.true_said l b u loyal j))
-              (λ j. adds-keeps adds b b u (⊎_elim
+              (λ (j : x.heard l b u ≡ true). adds_keeps adds b b u (x.true_said l b u loyal j))
+              (λ j. adds_keeps adds b b u (⊎_elim
               (λ (i : x.heard z.author z.author z.said ≡ true). (λ c. x.heard (sym j.1 c) (sym j.1 c) (sym j.2 c)) ∙ i)
               (λ i. absurd (omega (arith, i.0, ap (λ (c : ℕ). bit x.astray c) j.1, loyal)))
               oldest.origin))
               (adds_cases adds l b u k);
           coming = λ l b u hl k. ⊎_elim
               (λ (j : x.heard b b u ≡ true). ⊎_elim
-              (λ (w : x.heard l b u ≡ true). inl (adds-keeps adds l b u w))
+              (λ (w : x.heard l b u ≡ true). inl (adds_keeps adds l b u w))
               (λ w. ⊎_elim (λ (q : z ≡ triple l b u). inl ((λ c. h (sym q c).listener (sym q c).author (sym q c).said) ∙ adds_it adds)) inr (back (triple l b u) w))
               (x.coming l b u hl j))
               (λ j. absurd (apart (j.0 ∙ sym j.1)))
               (adds_cases adds b b u k);
-          good = λ l b u w. good-still (λ j. adds-keeps adds b b u j) (λ j. j) (x.good l b u (more (triple l b u) w));
+          good = λ l b u w. good_still (λ j. adds_keeps adds b b u j) (λ j. j) (x.good l b u (more (triple l b u) w));
         }
 
     pub hears-first : Hears (mean x) z.listener z.author z.said (mean heard_net)
@@ -266,7 +266,7 @@ module _ (x : Net) (z : Triple) (zs : List Triple) (e : x.queue ≡ z ∷ zs) wh
       author = oldest.author;
       apart = apart;
       sound = oldest.sound;
-      heard = with-adds x.queue zs x.astray x.heard z.listener z.author z.said;
+      heard = with_adds x.queue zs x.astray x.heard z.listener z.author z.said;
       astray = refl;
       toil = omega (arith, fewer);
       spare = omega arith;
@@ -285,7 +285,7 @@ take-first x h = go x.queue refl h
     go : (q : List Triple) → x.queue ≡ q → 0 < length q → ((y : Net) × Quiet (mean x) (mean y)) ⊎ HeardOf x
     go [] e l = absurd (omega arith)
     go (z ∷ zs) e l = ⊎_elim
-        (λ (i : x.heard z.listener z.author z.said ≡ true). inl (dropped-net x z zs e i, moves x z zs e i))
+        (λ (i : x.heard z.listener z.author z.said ≡ true). inl (dropped_net x z zs e i, moves x z zs e i))
         (λ i. inr (record { listener = z.listener; author = z.author; said = z.said; after = heard_net x z zs e i; hears = hears-first x z zs e i }))
         (cases_Bool (x.heard z.listener z.author z.said))
 
@@ -296,11 +296,11 @@ meddled_net x c to t hc ht ne snd = record {
   queue = x.queue ++ triple to c t ∷ [];
   astray = adding c x.astray;
   heard = x.heard;
-  true_said = λ l a u loyal e. x.true_said l a u (omega (arith, loyal, union-within-left x.astray (only c) a)) e;
+  true_said = λ l a u loyal e. x.true_said l a u (omega (arith, loyal, union_within_left x.astray (only c) a)) e;
   coming = λ l a u hl e. ⊎_elim inl (λ i. inr (waits_front (triple l a u) x.queue (triple to c t ∷ []) i)) (x.coming l a u hl e);
   good = λ l a u w. ⊎_elim
       (λ (i : Waits (triple l a u) x.queue).
-      good-still (λ j. j) (within_in x.astray (adding c x.astray) a (union-within-left x.astray (only c))) (x.good l a u i))
+      good_still (λ j. j) (within_in x.astray (adding c x.astray) a (union_within_left x.astray (only c))) (x.good l a u i))
       (⊎_elim
       (λ (i : triple to c t ≡ triple l a u).
       let l-is : to ≡ l = ap (λ (z : Triple). z.listener) i in

@@ -1,7 +1,7 @@
 -- What every call keeps. Assumes nothing.
 --   Kept           votes, deliveries and Sends as above, and whoever is astray meddled
 --   idle           calls by which nothing is heard keep it
---   same-carrier   so do calls that leave the carrier as it is
+--   same_carrier   so do calls that leave the carrier as it is
 --   source_of      a sound Send is of its author's own order
 --   heard-step     so does a carry by which a note is heard
 --   order_step     so does an order
@@ -9,8 +9,8 @@
 use Rattle.std.proofs.Common.{◌≡◌, ℕ, ◌≤◌, Bool, true, false, not, eqb, ltb, leb, ◌⊎◌, List, ◌∷◌, Some, Option, sym, refl, ap, ◌∙◌, inl, inr, ⊎_elim, arith}
 use Rattle.std.proofs.lemmas.Bool.{eqb-true, and_parts, or_cases, not-true, both_ways, true≢false}
 use Rattle.sets.specs.Sets.{bit, In, count, adding, only}
-use Rattle.sets.proofs.Members.{union-within-left, union-in, only-in}
-use Rattle.sets.proofs.Counts.{adding-most}
+use Rattle.sets.proofs.Members.{union_within_left, union_in, only_in}
+use Rattle.sets.proofs.Counts.{adding_most}
 use Rattle.matter.specs.Layouts.{Kind}
 use Rattle.frames.specs.declared.notes.Step.TheVariants.{Send, Echo}
 use Rattle.frames.specs.declared.notes.Note.{Note}
@@ -19,10 +19,10 @@ use Rattle.agreement.specs.Meanings.{Meaning, Lawful}
 use Rattle.agreement.specs.Carrying.{Adds, Silent, Fixed}
 use Rattle.agreement.specs.Flights.{State, Ledger, Delivery, Event, ordered, moved, heard, meddled, collected, booked, returned, refused, order, Accepted, Answered, Ordering, Hearing, SameVotes, SameOrders}
 use Rattle.agreement.specs.Runs.{Tells, Books, Orders, Misleads, Astray}
-use Rattle.agreement.proofs.Room.{order_passed, meddle-few}
-use Rattle.agreement.proofs.HeardNotes.{adds_cases, adds-keeps, adds_it, Own}
+use Rattle.agreement.proofs.Room.{order_passed, meddle_few}
+use Rattle.agreement.proofs.HeardNotes.{adds_cases, adds_keeps, adds_it, Own}
 use Rattle.agreement.proofs.Entries.{steps, echo≢send, ready≢send}
-use Rattle.agreement.proofs.KeptVotes.{VotesKept, DeliveriesKept, votes_idle, deliveries_idle, votes-turn, deliveries-turn, turn-spoken}
+use Rattle.agreement.proofs.KeptVotes.{VotesKept, DeliveriesKept, votes_idle, deliveries_idle, votes_turn, deliveries_turn, turn_spoken}
 use Rattle.agreement.proofs.KeptSends.{SendsKept, sends_idle, sends_order}
 
 pub record Kept (es : List Event) (s : State) : Type 0 where
@@ -49,10 +49,10 @@ module _ (es : List Event) (e : Event) (s s' : State) (fx : Fixed s.carrier s'.c
   }
 
 -- a call that leaves the carrier
-same-carrier : (es : List Event) (e : Event) (s s' : State) → s'.carrier ≡ s.carrier → SameVotes s s' → SameOrders s s'
+same_carrier : (es : List Event) (e : Event) (s s' : State) → s'.carrier ≡ s.carrier → SameVotes s s' → SameOrders s s'
     → ((p o k w : ℕ) → Tells e p o k w → ⊥) → ((p o k w : ℕ) → Books e p o k w → (s.ledger.votes p o k).delivered ≡ Some w) → ((o k w : ℕ) → Orders e o k w → ⊥)
     → Kept es s → Kept (e ∷ es) s'
-same-carrier es e s s' q votes orders no_Tells books no-orders h =
+same_carrier es e s s' q votes orders no_Tells books no-orders h =
     idle es e s s'
     (record { n = ap (λ (i : Meaning). i.n) q; f = ap (λ (i : Meaning). i.f) q; chart = ap (λ (i : Meaning). i.chart) q })
     (record { at = λ l a t. ap (λ (i : Meaning). i.heard l a t) q })
@@ -60,27 +60,27 @@ same-carrier es e s s' q votes orders no_Tells books no-orders h =
     (λ i x. ap (λ (z : Meaning). bit z.astray i) (sym q) ∙ x)
     votes orders no_Tells books no-orders (λ i x. inr (ap (λ (z : Meaning). bit z.astray i) (sym q) ∙ x)) h
 
-same-votes : (s s' : State) → s'.ledger ≡ s.ledger → SameVotes s s'
-same-votes s s' q c o k = ap (λ (b : Ledger). b.votes c o k) q
+same_votes : (s s' : State) → s'.ledger ≡ s.ledger → SameVotes s s'
+same_votes s s' q c o k = ap (λ (b : Ledger). b.votes c o k) q
 
-same-orders : (s s' : State) → s'.ledger ≡ s.ledger → SameOrders s s'
-same-orders s s' q c k = ap (λ (b : Ledger). b.ordered c k) q
+same_orders : (s s' : State) → s'.ledger ≡ s.ledger → SameOrders s s'
+same_orders s s' q c k = ap (λ (b : Ledger). b.ordered c k) q
 
 -- ---- a meddler is one of at most f
 
-loyal-before : (a c i : ℕ) → bit (adding c a) i ≡ 0 → bit a i ≡ 0
-loyal-before a c i e = omega (arith, union-within-left a (only c) i, e)
+loyal_before : (a c i : ℕ) → bit (adding c a) i ≡ 0 → bit a i ≡ 0
+loyal_before a c i e = omega (arith, union_within_left a (only c) i, e)
 
 misled_by : (a c i : ℕ) → In i (adding c a) → (c ≡ i) ⊎ In i a
-misled_by a c i e = ⊎_elim inr (λ h. inl (only-in c i h)) (union-in a (only c) i e)
+misled_by a c i e = ⊎_elim inr (λ h. inl (only_in c i h)) (union_in a (only c) i e)
 
 -- ---- calls by which a note is heard
 
 -- no other craft's Send is said
 module _ (s s' : State) (m₁ : Meaning) (l a : ℕ) (t : Note) (adds : Adds s.carrier l a t m₁)
     (e r : Bool) (only : (p c : ℕ) (u : Note) → s'.carrier.heard p c u ≡ true → (m₁.heard p c u ≡ true) ⊎ ((l ≡ p) × (l ≡ c) × Own e r t.origin t.number t.content u)) where
-  sends-only : (o k w : ℕ) → s'.carrier.heard o o (note Send o k w) ≡ true → (s.carrier.heard o o (note Send o k w) ≡ true) ⊎ ((l ≡ o) × (a ≡ o) × (t ≡ note Send o k w))
-  sends-only o k w x = ⊎_elim
+  sends_only : (o k w : ℕ) → s'.carrier.heard o o (note Send o k w) ≡ true → (s.carrier.heard o o (note Send o k w) ≡ true) ⊎ ((l ≡ o) × (a ≡ o) × (t ≡ note Send o k w))
+  sends_only o k w x = ⊎_elim
       (λ (i : m₁.heard o o (note Send o k w) ≡ true). adds_cases adds o o (note Send o k w) i)
       (λ i. ⊎_elim
       (λ (j : (e ≡ true) × (note Echo t.origin t.number t.content ≡ note Send o k w)). absurd (echo≢send (steps j.1)))
@@ -103,15 +103,15 @@ heard-step g es s s' i l a t d x law h =
     let y = x.hears in
     let apart : is_send t.step ≡ false → a ≡ l → ⊥ = λ _ q. y.apart (sym q) in
     let source = source_of s.carrier.n a t y.sound in
-    let sp = turn-spoken g s s' b l a t d y.fixed y.astray y.heard apart source x.voted in
+    let sp = turn_spoken g s s' b l a t d y.fixed y.astray y.heard apart source x.voted in
     record {
-      votes = votes-turn g s s' b l a t d y.fixed y.astray y.heard apart source x.voted h.votes law;
-      deliveries = deliveries-turn g s s' b l a t d y.fixed y.astray y.heard apart source x.voted es (heard i l a t d)
+      votes = votes_turn g s s' b l a t d y.fixed y.astray y.heard apart source x.voted h.votes law;
+      deliveries = deliveries_turn g s s' b l a t d y.fixed y.astray y.heard apart source x.voted es (heard i l a t d)
           (λ p o k w z. z) (λ p o k w z. z) (λ p o k w z. z) h.deliveries;
       sends = sends_idle es (heard i l a t d) s s'
-          (λ o k w z. sp.keeps o o (note Send o k w) (adds-keeps y.heard o o (note Send o k w) z))
+          (λ o k w z. sp.keeps o o (note Send o k w) (adds_keeps y.heard o o (note Send o k w) z))
           (λ o k w z. ⊎_elim (λ (j : s.carrier.heard o o (note Send o k w) ≡ true). j) (λ j. absurd (y.apart (j.0 ∙ sym j.1)))
-          (sends-only s s' b l a t y.heard _ _ sp.only o k w z))
+          (sends_only s s' b l a t y.heard _ _ sp.only o k w z))
           x.orders (λ o k w z. z) h.sends;
       astray = λ j z. inr (h.astray j (ap (λ (u : ℕ). bit u j) (sym (sp.astray ∙ y.astray)) ∙ z));
     }
@@ -124,51 +124,51 @@ order_step g ks es s s' c k w d ok x law h =
     let t = note Send c k w in
     let apart : is_send Send ≡ false → c ≡ c → ⊥ = λ q _. true≢false q in
     let source : is_send Send ≡ true → c ≡ c = λ _. refl in
-    let sp = turn-spoken g s s' b c c t d y.fixed y.astray y.heard apart source x.voted in
+    let sp = turn_spoken g s s' b c c t d y.fixed y.astray y.heard apart source x.voted in
     let free = (order_passed ks s c k w ok).new in
     record {
-      votes = votes-turn g s s' b c c t d y.fixed y.astray y.heard apart source x.voted h.votes law;
-      deliveries = deliveries-turn g s s' b c c t d y.fixed y.astray y.heard apart source x.voted es (ordered c k w d)
+      votes = votes_turn g s s' b c c t d y.fixed y.astray y.heard apart source x.voted h.votes law;
+      deliveries = deliveries_turn g s s' b c c t d y.fixed y.astray y.heard apart source x.voted es (ordered c k w d)
           (λ p o j v z. z) (λ p o j v z. z) (λ p o j v z. z) h.deliveries;
       sends = sends_order es s s' c k w d free x.orders
-          (λ o j v z. sp.keeps o o (note Send o j v) (adds-keeps y.heard o o (note Send o j v) z))
+          (λ o j v z. sp.keeps o o (note Send o j v) (adds_keeps y.heard o o (note Send o j v) z))
           (sp.keeps c c t (adds_it y.heard))
           (λ o j v z. ⊎_elim inl
           (λ (q : (c ≡ o) × (c ≡ o) × (t ≡ note Send o j v)). inr (q.0, ap (λ (u : Note). u.number) q.2, ap (λ (u : Note). u.content) q.2))
-          (sends-only s s' b c c t y.heard _ _ sp.only o j v z))
+          (sends_only s s' b c c t y.heard _ _ sp.only o j v z))
           h.sends;
       astray = λ j z. inr (h.astray j (ap (λ (u : ℕ). bit u j) (sym (sp.astray ∙ y.astray)) ∙ z));
     }
 
 -- ---- every call
 
-booked-word : (s : State) (c o k w p b j v : ℕ) → (s.ledger.votes c o k).delivered ≡ Some w → (c ≡ p) × (o ≡ b) × (k ≡ j) × (w ≡ v) → (s.ledger.votes p b j).delivered ≡ Some v
-booked-word s c o k w p b j v e q = (λ i. (s.ledger.votes (sym q.0 i) (sym q.1 i) (sym q.2 i)).delivered) ∙ e ∙ ap (λ (z : ℕ). Some z) q.3
+booked_word : (s : State) (c o k w p b j v : ℕ) → (s.ledger.votes c o k).delivered ≡ Some w → (c ≡ p) × (o ≡ b) × (k ≡ j) × (w ≡ v) → (s.ledger.votes p b j).delivered ≡ Some v
+booked_word s c o k w p b j v e q = (λ i. (s.ledger.votes (sym q.0 i) (sym q.1 i) (sym q.2 i)).delivered) ∙ e ∙ ap (λ (z : ℕ). Some z) q.3
 
 pub kept_step : (g : ℕ) (ks : List Kind) (es : List Event) (s s' : State) (e : Event) → Answered g ks s e s' → Lawful s'.carrier → Kept es s → Kept (e ∷ es) s'
 kept_step g ks es s s' (ordered c k w d) x law h = order_step g ks es s s' c k w d x.0 x.1 law h
 kept_step g ks es s s' (moved i) x law h =
     let q = x.1.quiet in
     idle es (moved i) s s' q.fixed q.heard (omega (arith, h.votes.few, ap count q.astray, q.fixed.f))
-    (λ j e. ap (λ (z : ℕ). bit z j) (sym q.astray) ∙ e) (same-votes s s' x.1.ledger) (same-orders s s' x.1.ledger)
+    (λ j e. ap (λ (z : ℕ). bit z j) (sym q.astray) ∙ e) (same_votes s s' x.1.ledger) (same_orders s s' x.1.ledger)
     (λ p o k w z. z) (λ p o k w z. absurd z) (λ o k w z. z) (λ j e. inr (ap (λ (z : ℕ). bit z j) (sym q.astray) ∙ e)) h
 kept_step g ks es s s' (heard i l a t d) x law h = heard-step g es s s' i l a t d x.1 law h
 kept_step g ks es s s' (meddled c to u) x law h =
     let q = x.1.meddled in
-    let few = meddle-few ks s c to u x.0 in
+    let few = meddle_few ks s c to u x.0 in
     idle es (meddled c to u) s s' q.fixed q.heard
-    (omega (arith, adding-most c s.carrier.astray s.carrier.f h.votes.few few, ap count q.astray, q.fixed.f))
-    (λ j e. loyal-before s.carrier.astray c j (ap (λ (z : ℕ). bit z j) (sym q.astray) ∙ e)) (same-votes s s' x.1.ledger) (same-orders s s' x.1.ledger)
+    (omega (arith, adding_most c s.carrier.astray s.carrier.f h.votes.few few, ap count q.astray, q.fixed.f))
+    (λ j e. loyal_before s.carrier.astray c j (ap (λ (z : ℕ). bit z j) (sym q.astray) ∙ e)) (same_votes s s' x.1.ledger) (same_orders s s' x.1.ledger)
     (λ p o k w z. z) (λ p o k w z. absurd z) (λ o k w z. z)
     (λ j e. misled_by s.carrier.astray c j (ap (λ (z : ℕ). bit z j) (sym q.astray) ∙ e)) h
 kept_step g ks es s s' (collected c o k) x law h =
-    same-carrier es (collected c o k) s s' x.1.carrier x.1.votes x.1.orders (λ p b j w z. z) (λ p b j w z. absurd z) (λ b j w z. z) h
+    same_carrier es (collected c o k) s s' x.1.carrier x.1.votes x.1.orders (λ p b j w z. z) (λ p b j w z. absurd z) (λ b j w z. z) h
 kept_step g ks es s s' (booked c o k place buffer w) x law h =
-    same-carrier es (booked c o k place buffer w) s s' x.1.carrier x.1.votes x.1.orders (λ p b j v z. z)
-    (λ p b j v z. booked-word s c o k w p b j v x.1.word z)
+    same_carrier es (booked c o k place buffer w) s s' x.1.carrier x.1.votes x.1.orders (λ p b j v z. z)
+    (λ p b j v z. booked_word s c o k w p b j v x.1.word z)
     (λ b j v z. z) h
 kept_step g ks es s s' (returned c o k) x law h =
-    same-carrier es (returned c o k) s s' x.1.carrier x.1.votes x.1.orders (λ p b j w z. z) (λ p b j w z. absurd z) (λ b j w z. z) h
+    same_carrier es (returned c o k) s s' x.1.carrier x.1.votes x.1.orders (λ p b j w z. z) (λ p b j w z. absurd z) (λ b j w z. z) h
 kept_step g ks es s s' (refused c v) x law h =
-    same-carrier es (refused c v) s s' (ap (λ (z : State). z.carrier) x.1) (λ b o k. ap (λ (z : State). z.ledger.votes b o k) x.1) (λ b k. ap (λ (z : State). z.ledger.ordered b k) x.1)
+    same_carrier es (refused c v) s s' (ap (λ (z : State). z.carrier) x.1) (λ b o k. ap (λ (z : State). z.ledger.votes b o k) x.1) (λ b k. ap (λ (z : State). z.ledger.ordered b k) x.1)
     (λ p b j w z. z) (λ p b j w z. absurd z) (λ b j w z. z) h

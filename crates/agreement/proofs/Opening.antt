@@ -1,13 +1,13 @@
 -- What every call keeps holds at the opening, so after every list of calls. Assumes nothing.
---   kept-opening   it holds at the opening
+--   kept_opening   it holds at the opening
 --   kept_run       it holds after every run
---   lawful-run     the carrier is lawful after every run
+--   lawful_run     the carrier is lawful after every run
 use Rattle.std.proofs.Common.{◌≡◌, ℕ, ◌<◌, true, List, [], Some, None, sym, ap, ◌∙◌, subst, arith}
 use Rattle.std.proofs.lemmas.Bool.{both_ways, true≢false}
 use Rattle.sets.specs.Sets.{count, bit}
 use Rattle.sets.proofs.Counts.{count-zero}
 use Rattle.sets.proofs.Bits.{bit-zero}
-use Rattle.sets.proofs.Passing.{one_passes-outside}
+use Rattle.sets.proofs.Passing.{one_passes_outside}
 use Rattle.matter.specs.Layouts.{Kind}
 use Rattle.frames.specs.declared.notes.Step.{Step}
 use Rattle.frames.specs.declared.notes.Step.TheVariants.{Send, Echo, Ready}
@@ -25,41 +25,41 @@ none≢some {v} e = let z : ◌≡◌ {A = ℕ} 0 1 = cc in omega arith
 
 no_backers : (n v : ℕ) → 0 < backers n (λ a. None) v → ⊥
 unfolding backers
-no_backers n v h = true≢false (sym (one_passes-outside n 0 0 (λ a. is None v) h (omega (arith, count-zero))).2)
+no_backers n v h = true≢false (sym (one_passes_outside n 0 0 (λ a. is None v) h (omega (arith, count-zero))).2)
 
 module _ (m : Meaning) (fresh : Fresh m) where
   unheard : {X : Type 0} (l a : ℕ) (x : Step) (o k w : ℕ) → m.heard l a (note x o k w) ≡ true → X
   unheard l a x o k w e = absurd (both_ways (m.heard l a (note x o k w)) (fresh.heard l a (note x o k w)) e)
 
-  blank-matches : (x : Step) (p o k : ℕ) → Matches m x p o k (λ a. None)
-  blank-matches x p o k = record {
+  blank_matches : (x : Step) (p o k : ℕ) → Matches m x p o k (λ a. None)
+  blank_matches x p o k = record {
     heard = λ a v e. absurd (none≢some e);
     kept = λ a v e. unheard p a x o k v e;
     own = λ v e. unheard p p x o k v e;
   }
 
-  blank-entry : (n f p o k : ℕ) → Entry n f m blank p o k
-  blank-entry n f p o k = record {
+  blank_entry : (n f p o k : ℕ) → Entry n f m blank p o k
+  blank_entry n f p o k = record {
     settled = record {
       by_echoes = λ v h. absurd (no_backers n v (omega (arith, h)));
       by_readies = λ v h. absurd (no_backers n v (omega (arith, h)));
       by_enough = λ v h. absurd (no_backers n v (omega (arith, h)));
     };
     counted = λ v e. absurd (none≢some e);
-    echo = blank-matches Echo p o k;
-    ready = blank-matches Ready p o k;
+    echo = blank_matches Echo p o k;
+    ready = blank_matches Ready p o k;
     cause = λ v e. unheard p p Echo o k v e;
     echoed = λ v e. unheard p o Send o k v e;
   }
 
-kept-opening : (s : State) → Opening s → Kept [] s
-kept-opening s h =
+kept_opening : (s : State) → Opening s → Kept [] s
+kept_opening s h =
     let m = s.carrier in
     let fresh = h.fresh in
     record {
       votes = record {
         few = omega (arith, ap count fresh.astray, count-zero);
-        entry = λ p o k. subst (λ (t : Tally). Entry m.n m.f m t p o k) (sym (h.empty.votes p o k)) (blank-entry m fresh m.n m.f p o k);
+        entry = λ p o k. subst (λ (t : Tally). Entry m.n m.f m t p o k) (sym (h.empty.votes p o k)) (blank_entry m fresh m.n m.f p o k);
         certificate = λ p o k w hp e. unheard m fresh p p Ready o k w e;
       };
       deliveries = record {
@@ -77,9 +77,9 @@ kept-opening s h =
     }
 
 pub kept_run : {g : ℕ} {ks : List Kind} {s₀ s : State} {es : List Event} → Opening s₀ → Run g ks s₀ es s → Kept es s
-kept_run start (still ok) = kept-opening _ start
+kept_run start (still ok) = kept_opening _ start
 kept_run start (then run x ok) = kept_step _ _ _ _ _ _ x ok (kept_run start run)
 
-pub lawful-run : {g : ℕ} {ks : List Kind} {s₀ s : State} {es : List Event} → Run g ks s₀ es s → Lawful s.carrier
-lawful-run (still ok) = ok
-lawful-run (then run x ok) = ok
+pub lawful_run : {g : ℕ} {ks : List Kind} {s₀ s : State} {es : List Event} → Run g ks s₀ es s → Lawful s.carrier
+lawful_run (still ok) = ok
+lawful_run (then run x ok) = ok

@@ -14,10 +14,10 @@ use Rattle.agreement.specs.Flights.{State, Ledger, Event, ordered, moved, heard,
 use Rattle.agreement.specs.Runs.{Run, still, then, Ordered, Astray, Misleads, Carry, accepted}
 use Rattle.agreement.specs.Lives.{state}
 use Rattle.agreement.specs.Possible.{Arrives, Possible}
-use Rattle.agreement.proofs.Causes.{accepts, clear-append, word-clear}
+use Rattle.agreement.proofs.Causes.{accepts, clear-append, word_clear}
 use Rattle.agreement.proofs.RestComes.{carry_falls}
 use Rattle.agreement.proofs.Agrees.{agreement}
-use Rattle.agreement.proofs.IdealFlight.{empty, opening, voted, vote, carry-accepted}
+use Rattle.agreement.proofs.IdealFlight.{empty, opening, voted, vote, carry_accepted}
 use Rattle.agreement.proofs.IdealCarrier.{Net, mean, lawful, say, take-first, HeardOf, idle_net}
 
 -- ---- a carry that is accepted
@@ -31,8 +31,8 @@ pub record Carried (ks : List Kind) (x : Net) (b : Ledger) : Type 0 where
   pub loyal : (i : ℕ) → Misleads call i → ⊥
   pub step : Answered 4 ks (state (mean x) b) call (state (mean after) ledger)
 
-carried-heard : (ks : List Kind) (x : Net) (b : Ledger) → 0 < length x.queue → HeardOf x → Carried ks x b
-carried-heard ks x b h r =
+carried_heard : (ks : List Kind) (x : Net) (b : Ledger) → 0 < length x.queue → HeardOf x → Carried ks x b
+carried_heard ks x b h r =
     let l = r.listener in
     let a = r.author in
     let t = r.said in
@@ -47,7 +47,7 @@ carried-heard ks x b h r =
       one = refl;
       loyal = λ i z. z;
       step = (
-        carry-accepted ks x b h,
+        carry_accepted ks x b h,
         record {
           between = mean r.after;
           hears = r.hears;
@@ -67,9 +67,9 @@ carried ks x b h = ⊎_elim
       only = tt;
       one = refl;
       loyal = λ i z. z;
-      step = (carry-accepted ks x b h, record { quiet = r.1; ledger = refl });
+      step = (carry_accepted ks x b h, record { quiet = r.1; ledger = refl });
     })
-    (carried-heard ks x b h)
+    (carried_heard ks x b h)
     (take-first x h)
 
 -- ---- carries until nothing waits
@@ -107,7 +107,7 @@ marked b j = false || (eqb 0 b && eqb 0 j)
 order_accepted : (ks : List Kind) (w : ℕ) → word_refusal ks w ≡ None → Accepted ks (state (mean idle_net) empty) (order 0 0 w)
 order_accepted ks w e =
     accepts (causes ks (state (mean idle_net) empty) (order 0 0 w))
-    (lt-leb 4 0 (omega arith), (le-ltb 3 0 (omega arith), clear-append (word_cause (word_refusal ks w)) (cause 4 6 (0 ∷ []) false ∷ tight (state (mean idle_net) empty)) (word-clear (word_refusal ks w) e) (refl, (le-ltb 64 3 (omega arith), tt))))
+    (lt-leb 4 0 (omega arith), (le-ltb 3 0 (omega arith), clear-append (word_cause (word_refusal ks w)) (cause 4 6 (0 ∷ []) false ∷ tight (state (mean idle_net) empty)) (word_clear (word_refusal ks w) e) (refl, (le-ltb 64 3 (omega arith), tt))))
 
 arrives : (ks : List Kind) (w : ℕ) → word_refusal ks w ≡ None → Arrives ks w
 unfolding marked

@@ -1,7 +1,7 @@
 -- Part (c): every accepted carry lowers the flight's toil. Assumes nothing.
 --   said_more     what a turn says was not said before
 --   total_bound   n craft say at most 8n² Echoes and Readies
---   total-more    what one craft says more of one order, all have said more
+--   total_more    what one craft says more of one order, all have said more
 --   moved_falls, heard_falls
 --                 an accepted carry lowers the toil by 1 at least: what is said then costs at most g each, and was paid for
 --   carry_falls   every carry, accepted or refused
@@ -18,9 +18,9 @@ use Rattle.agreement.specs.Votes.{Tally, present, first, hear, says_echo, echo_a
 use Rattle.agreement.specs.Flights.{State, Ledger, Delivery, Event, ordered, moved, heard, meddled, collected, booked, returned, refused, Answered, Hearing, Moving, here, turn, flag, sum, numbers, votes_said, total_said, flight_toil}
 use Rattle.agreement.specs.Runs.{Run, still, then, Carry, Carries, accepted, accepted_in}
 use Rattle.agreement.specs.Agreement.{RestComes}
-use Rattle.agreement.proofs.FirstVotes.{first-there, grows-present}
-use Rattle.agreement.proofs.Turns.{grows-echo, grows-heard, grows-ready, said-there}
-use Rattle.agreement.proofs.KeptVotes.{turn-spoken, here_self, here-parts}
+use Rattle.agreement.proofs.FirstVotes.{first_there, grows_present}
+use Rattle.agreement.proofs.Turns.{grows_echo, grows_heard, grows_ready, said_there}
+use Rattle.agreement.proofs.KeptVotes.{turn_spoken, here_self, here-parts}
 use Rattle.agreement.proofs.KeptRuns.{source_of}
 use Rattle.agreement.proofs.Sums.{sum_bound, sum_mono, sum_more}
 
@@ -33,26 +33,26 @@ flag_mono false true h = omega arith
 flag_mono false false h = omega arith
 
 -- it was not there and is there now, or it stays
-flag-more : (b e c : Bool) → (b ≡ true → c ≡ true) → (e ≡ true → b ≡ false) → (e ≡ true → c ≡ true) → flag b + flag e ≤ flag c
-flag-more b true c keeps new there = rw (new refl, there refl) (omega arith)
-flag-more b false c keeps new there = omega (arith, flag_mono b c keeps)
+flag_more : (b e c : Bool) → (b ≡ true → c ≡ true) → (e ≡ true → b ≡ false) → (e ≡ true → c ≡ true) → flag b + flag e ≤ flag c
+flag_more b true c keeps new there = rw (new refl, there refl) (omega arith)
+flag_more b false c keeps new there = omega (arith, flag_mono b c keeps)
 
 module _ (n f p a w : ℕ) (t : Tally) where
-  echo-new : (x : Step) → says_echo n f p a w t x ≡ true → present (t.echo p) ≡ false
-  echo-new Send e = not-true (present (t.echo p)) e
-  echo-new Echo e = absurd (true≢false (sym e))
-  echo-new Ready e = absurd (true≢false (sym e))
+  echo_new : (x : Step) → says_echo n f p a w t x ≡ true → present (t.echo p) ≡ false
+  echo_new Send e = not-true (present (t.echo p)) e
+  echo_new Echo e = absurd (true≢false (sym e))
+  echo_new Ready e = absurd (true≢false (sym e))
 
-  echo-there : (x : Step) → says_echo n f p a w t x ≡ true → present (echo_after n f p a w t x p) ≡ true
-  echo-there Send e =
-      ap (λ (F : ℕ → Option ℕ). present (F p)) (cond-true (says_echo n f p a w t Send) (first p w t.echo) t.echo e) ∙ first-there p w t.echo
-  echo-there Echo e = absurd (true≢false (sym e))
-  echo-there Ready e = absurd (true≢false (sym e))
+  echo_there : (x : Step) → says_echo n f p a w t x ≡ true → present (echo_after n f p a w t x p) ≡ true
+  echo_there Send e =
+      ap (λ (F : ℕ → Option ℕ). present (F p)) (cond-true (says_echo n f p a w t Send) (first p w t.echo) t.echo e) ∙ first_there p w t.echo
+  echo_there Echo e = absurd (true≢false (sym e))
+  echo_there Ready e = absurd (true≢false (sym e))
 
-  ready-new : (x : Step) → says_ready n f p a w t x ≡ true → present (t.ready p) ≡ false
-  ready-new x e = ⊎_elim
+  ready_new : (x : Step) → says_ready n f p a w t x ≡ true → present (t.ready p) ≡ false
+  ready_new x e = ⊎_elim
       (λ (h : present (t.ready p) ≡ true).
-      absurd (both_ways (present (ready_heard n f p a w t x p)) (not-true (present (ready_heard n f p a w t x p)) (and_parts (ready_due n f p a w t x) _ e).1) (grows-present (grows-heard n f p a w t x) p h)))
+      absurd (both_ways (present (ready_heard n f p a w t x p)) (not-true (present (ready_heard n f p a w t x p)) (and_parts (ready_due n f p a w t x) _ e).1) (grows_present (grows_heard n f p a w t x) p h)))
       (λ h. h)
       (cases_Bool (present (t.ready p)))
 
@@ -60,15 +60,15 @@ module _ (n f p a w : ℕ) (t : Tally) where
   unfolding hear
   said_more x = omega (
     arith,
-    flag-more (present (t.echo p)) (says_echo n f p a w t x) (present (echo_after n f p a w t x p)) (grows-present (grows-echo n f p a w t x) p) (echo-new x) (echo-there x),
-    flag-more (present (t.ready p)) (says_ready n f p a w t x) (present (ready_after n f p a w t x p)) (grows-present (grows-ready n f p a w t x) p) (ready-new x) (said-there n f p a w t x),
+    flag_more (present (t.echo p)) (says_echo n f p a w t x) (present (echo_after n f p a w t x p)) (grows_present (grows_echo n f p a w t x) p) (echo_new x) (echo_there x),
+    flag_more (present (t.ready p)) (says_ready n f p a w t x) (present (ready_after n f p a w t x p)) (grows_present (grows_ready n f p a w t x) p) (ready_new x) (said_there n f p a w t x),
   )
 
 -- ---- all that is said
 
-flag-le : (b : Bool) → flag b ≤ 1
-flag-le true = omega arith
-flag-le false = omega arith
+flag_le : (b : Bool) → flag b ≤ 1
+flag_le true = omega arith
+flag_le false = omega arith
 
 pub total_bound : (n : ℕ) (votes : ℕ → ℕ → ℕ → Tally) → total_said n votes ≤ 8 * (n * n)
 total_bound n votes =
@@ -76,13 +76,13 @@ total_bound n votes =
       arith,
       sum_bound n (n * (numbers * 2)) (λ p. sum n (λ o. sum numbers (λ k. votes_said (votes p o k) p))) (λ p.
           sum_bound n (numbers * 2) (λ o. sum numbers (λ k. votes_said (votes p o k) p)) (λ o.
-          sum_bound numbers 2 (λ k. votes_said (votes p o k) p) (λ k. omega (arith, flag-le (present ((votes p o k).echo p)), flag-le (present ((votes p o k).ready p)))))),
+          sum_bound numbers 2 (λ k. votes_said (votes p o k) p) (λ k. omega (arith, flag_le (present ((votes p o k).echo p)), flag_le (present ((votes p o k).ready p)))))),
     )
 
 -- one craft says d more of one order, and all else stays
-total-more : (n : ℕ) (V W : ℕ → ℕ → ℕ → Tally) (l o k d : ℕ) → ((p b j : ℕ) → votes_said (V p b j) p ≤ votes_said (W p b j) p)
+total_more : (n : ℕ) (V W : ℕ → ℕ → ℕ → Tally) (l o k d : ℕ) → ((p b j : ℕ) → votes_said (V p b j) p ≤ votes_said (W p b j) p)
     → l < n → o < n → k < numbers → votes_said (V l o k) l + d ≤ votes_said (W l o k) l → total_said n V + d ≤ total_said n W
-total-more n V W l o k d mono hl ho hk e =
+total_more n V W l o k d mono hl ho hk e =
     sum_more n (λ p. sum n (λ b. sum numbers (λ j. votes_said (V p b j) p))) (λ p. sum n (λ b. sum numbers (λ j. votes_said (W p b j) p))) l d
     (λ p. sum_mono n (λ b. sum numbers (λ j. votes_said (V p b j) p)) (λ b. sum numbers (λ j. votes_said (W p b j) p)) (λ b.
     sum_mono numbers (λ j. votes_said (V p b j) p) (λ j. votes_said (W p b j) p) (λ j. mono p b j)))
@@ -122,8 +122,8 @@ module _ (g : ℕ) (s s' : State) (l a : ℕ) (t : Note) (d : Option Delivery) (
   abbrev said : ℕ
   said = flag (says_echo n s.carrier.f l a t.content tally t.step) + flag (says_ready n s.carrier.f l a t.content tally t.step)
 
-  here-more : votes_said (s.ledger.votes l t.origin t.number) l + said ≤ votes_said (s'.ledger.votes l t.origin t.number) l
-  here-more =
+  here_more : votes_said (s.ledger.votes l t.origin t.number) l + said ≤ votes_said (s'.ledger.votes l t.origin t.number) l
+  here_more =
       let e : s'.ledger.votes l t.origin t.number ≡ (turn s l a t).after =
       x.voted.votes l t.origin t.number ∙ cond-true (here l t.origin t.number l t.origin t.number) (turn s l a t).after tally (here_self l t.origin t.number) in
       subst (λ (z : Tally). votes_said tally l + said ≤ votes_said z l) (sym e) (said_more n s.carrier.f l a t.content tally t.step)
@@ -132,7 +132,7 @@ module _ (g : ℕ) (s s' : State) (l a : ℕ) (t : Note) (d : Option Delivery) (
   none_fewer p o k = ⊎_elim
       (λ (i : here l t.origin t.number p o k ≡ true).
       let q = here-parts l t.origin t.number p o k i in
-      let r : votes_said (s.ledger.votes l t.origin t.number) l ≤ votes_said (s'.ledger.votes l t.origin t.number) l = omega (arith, here-more) in
+      let r : votes_said (s.ledger.votes l t.origin t.number) l ≤ votes_said (s'.ledger.votes l t.origin t.number) l = omega (arith, here_more) in
       subst₃ (λ (c b j : ℕ). votes_said (s.ledger.votes c b j) c ≤ votes_said (s'.ledger.votes c b j) c) q.0 q.1 q.2 r)
       (λ i.
       let e : s'.ledger.votes p o k ≡ s.ledger.votes p o k =
@@ -144,11 +144,11 @@ module _ (g : ℕ) (s s' : State) (l a : ℕ) (t : Note) (d : Option Delivery) (
   heard_falls =
       let y = x.hears in
       let apart : is_send t.step ≡ false → a ≡ l → ⊥ = λ _ q. y.apart (sym q) in
-      let sp = turn-spoken g s s' x.between l a t d y.fixed y.astray y.heard apart (source_of n a t y.sound) x.voted in
+      let sp = turn_spoken g s s' x.between l a t d y.fixed y.astray y.heard apart (source_of n a t y.sound) x.voted in
       let q : s'.carrier.n ≡ n = sp.fixed.n ∙ y.fixed.n in
       let snd = and_parts (ltb t.origin n) _ y.sound in
-      let more = total-more n s.ledger.votes s'.ledger.votes l t.origin t.number said none_fewer y.listener (ltb-true t.origin n snd.0)
-      (omega (arith, leb-true t.number last_number (and_parts (leb t.number last_number) _ snd.1).0)) here-more in
+      let more = total_more n s.ledger.votes s'.ledger.votes l t.origin t.number said none_fewer y.listener (ltb-true t.origin n snd.0)
+      (omega (arith, leb-true t.number last_number (and_parts (leb t.number last_number) _ snd.1).0)) here_more in
       let e : total_said s'.carrier.n s'.ledger.votes ≡ total_said n s'.ledger.votes = ap (λ (i : ℕ). total_said i s'.ledger.votes) q in
       paid g (8 * (n * n) - total_said n s.ledger.votes) (8 * (s'.carrier.n * s'.carrier.n) - total_said s'.carrier.n s'.ledger.votes) said
       s.carrier.toil x.between.toil s'.carrier.toil

@@ -6,7 +6,7 @@
 --   Books       this event is an accepted book by p of the word w, under o's number k
 --   Orders      this event is an accepted order of w by o, under the number k
 --   Misleads    this event is an accepted meddle by i
---   SomeOf     some event of a list does
+--   SomeOf      some event of a list does
 --   Delivered, Booked, Ordered, Astray
 --               some event of the list tells, books, orders, misleads
 --   Carry       this event is a carry, accepted or refused

@@ -6,9 +6,9 @@
 --   no_entry     what stands where no entry waits
 --   Spoken       a new note is put to all neighbours of its author, ascending, and the empty set is held for it on the author's shelf
 --   SaysOn       a say: a note that was said before changes nothing, another is spoken; refused by the carrier's causes, or by the link service's put
---   MeddledTo   the frame is put from c to one craft, and c is astray
+--   MeddledTo    the frame is put from c to one craft, and c is astray
 --   MeddlesOn    a meddle: refused by the carrier's causes, or by the link service's put
---   StartedOn   a link service just started, with empty shelves and nobody astray
+--   StartedOn    a link service just started, with empty shelves and nobody astray
 --   StartsOn     a start, refused by the link service alone
 use Rattle.std.specs.Prelude.{◌≡◌, ℕ, min, true, false, ◌⊎◌, List, [], Some, None, Ok, Err, Result, slice_index}
 use Rattle.sets.specs.Sets.{only, adding}

@@ -17,8 +17,8 @@ use Rattle.shelves.specs.Shelves.{rows_at, fewest, heard_on}
 use Rattle.carriers.specs.Directs.{Flows, Opened}
 
 -- nothing was heard, and nothing waits
-fresh-flows : (n astray : ℕ) (h : ℕ → ℕ → Note → Bool) → ((l a : ℕ) (x : Note) → h l a x ≡ false) → Flows n astray h []
-fresh-flows n astray h none = record {
+fresh_flows : (n astray : ℕ) (h : ℕ → ℕ → Note → Bool) → ((l a : ℕ) (x : Note) → h l a x ≡ false) → Flows n astray h []
+fresh_flows n astray h none = record {
   linked = tt;
   truthful = tt;
   sound = λ a x e. absurd (both_ways _ (none a a x) e);
@@ -43,6 +43,6 @@ module _ {L : Type 0} (m : L → links.Meaning) (laws : Laws m) where
         fresh = record { heard = quiet; waiting = ap length start.waiting; astray = refl; spare = roomy (m l').spare (fewest t.at) room free };
         kept = record {
           rows = start.rows;
-          flows = subst (λ (w : List Entry). Flows c.chart.n 0 (heard_on t.at) w) (sym start.waiting) (fresh-flows c.chart.n 0 (heard_on t.at) quiet);
+          flows = subst (λ (w : List Entry). Flows c.chart.n 0 (heard_on t.at) w) (sym start.waiting) (fresh_flows c.chart.n 0 (heard_on t.at) quiet);
         };
       }

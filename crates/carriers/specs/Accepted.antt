@@ -2,7 +2,7 @@
 --   MaySay, may_say         the author is a craft, the note is sound by it, and there is room
 --   MayCarry, may_carry     the index is below the count of what waits, and there is room
 --   MayMeddle, may_meddle   both are craft, they are linked, fewer than f others are astray, and there is room
---   judged-say, judged-carry, judged-meddle
+--   judged_say, judged_carry, judged_meddle
 --                           what the code judged by is what the carrier means
 use Rattle.std.specs.Prelude.{◌≡◌, ℕ, ◌<◌, true, false, None, Option, ◌==◌}
 use Rattle.std.proofs.Common.{sym, ap, ◌∙◌, arith}
@@ -54,12 +54,12 @@ may_meddle n f row astray s c to h =
       room = roomy s q.1.1.1.1.0;
     }
 
-pub judged-say : (n a : ℕ) (x : Note) {s s' : ℕ} {o : Option Told} → s ≡ s' → refusal (saying_causes n s a x) ≡ o → refusal (saying_causes n s' a x) ≡ o
-judged-say n a x p h = ap (λ (i : ℕ). refusal (saying_causes n i a x)) (sym p) ∙ h
+pub judged_say : (n a : ℕ) (x : Note) {s s' : ℕ} {o : Option Told} → s ≡ s' → refusal (saying_causes n s a x) ≡ o → refusal (saying_causes n s' a x) ≡ o
+judged_say n a x p h = ap (λ (i : ℕ). refusal (saying_causes n i a x)) (sym p) ∙ h
 
-pub judged-carry : (k : ℕ) {w w' s s' : ℕ} {o : Option Told} → w ≡ w' → s ≡ s' → refusal (carrying_causes w s k) ≡ o → refusal (carrying_causes w' s' k) ≡ o
-judged-carry k {w} {w'} {s} {s'} p q h = ap (λ (i : ℕ). refusal (carrying_causes i s' k)) (sym p) ∙ ap (λ (i : ℕ). refusal (carrying_causes w i k)) (sym q) ∙ h
+pub judged_carry : (k : ℕ) {w w' s s' : ℕ} {o : Option Told} → w ≡ w' → s ≡ s' → refusal (carrying_causes w s k) ≡ o → refusal (carrying_causes w' s' k) ≡ o
+judged_carry k {w} {w'} {s} {s'} p q h = ap (λ (i : ℕ). refusal (carrying_causes i s' k)) (sym p) ∙ ap (λ (i : ℕ). refusal (carrying_causes w i k)) (sym q) ∙ h
 
-pub judged-meddle : (n f b c to : ℕ) {r r' s s' : ℕ} {o : Option Told} → r ≡ r' → s ≡ s' → refusal (meddling_causes n f r b s c to) ≡ o → refusal (meddling_causes n f r' b s' c to) ≡ o
-judged-meddle n f b c to {r} {r'} {s} {s'} p q h =
+pub judged_meddle : (n f b c to : ℕ) {r r' s s' : ℕ} {o : Option Told} → r ≡ r' → s ≡ s' → refusal (meddling_causes n f r b s c to) ≡ o → refusal (meddling_causes n f r' b s' c to) ≡ o
+judged_meddle n f b c to {r} {r'} {s} {s'} p q h =
     ap (λ (i : ℕ). refusal (meddling_causes n f i b s' c to)) (sym p) ∙ ap (λ (i : ℕ). refusal (meddling_causes n f r b i c to)) (sym q) ∙ h

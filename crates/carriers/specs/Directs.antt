@@ -10,10 +10,10 @@
 --   Untouched       link service, shelves, chart and astray are as they were
 --   Spoken          a new note is put to all neighbours of its author, ascending, and stands as the last row of the author's shelf
 --   SaysDirect      a note that was said before changes nothing; another is spoken
---   KeptTold       what is told stands as the last row of the listener's shelf; no other shelf changes, and nothing told changes none
---   TakenOn        the entry at an index is gone from the links, and what it tells is kept
+--   KeptTold        what is told stands as the last row of the listener's shelf; no other shelf changes, and nothing told changes none
+--   TakenOn         the entry at an index is gone from the links, and what it tells is kept
 --   CarriesDirect   a carry that is accepted takes an entry on
---   MeddledTo      the frame is put from c to one craft, and c is astray
+--   MeddledTo       the frame is put from c to one craft, and c is astray
 --   MeddlesDirect   a meddle that is accepted does that
 --   Linked          the entry goes from one craft to another
 --   Truthful        a craft that is not astray sends only what it said, as its own frame

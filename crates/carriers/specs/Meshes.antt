@@ -10,7 +10,7 @@ use Rattle.std.proofs.Common.{sym, ap, subst, ◌∙◌, ⊎_elim, arith, length
 use Rattle.std.proofs.lemmas.List.{get_or-take, get_or_past}
 use Rattle.std.proofs.lemmas.Bool.{cases_Bool, cases_eq, cases_lt, cases_order}
 use Rattle.sets.specs.Sets.{has}
-use Rattle.sets.proofs.Members.{has_in, in-has, in_positive}
+use Rattle.sets.proofs.Members.{has_in, in_has, in_positive}
 use Rattle.charts.specs.declared.chart.Chart.{Chart}
 use Rattle.charts.specs.Rows.{Linked}
 use Rattle.charts.proofs.RowLaws.{past_empty}
@@ -46,7 +46,7 @@ module _ (c : CompleteChart) where
   pub meshed : Meshed (rows_of_chart c) c.chart.n
   meshed = record {
     long = rows_long c.chart;
-    all = λ a b la lb ne. ap (λ (r : ℕ). has r b) (sym (row_is c.chart a)) ∙ in-has (slice_index c.chart.rows a) b (linked a b la lb ne);
+    all = λ a b la lb ne. ap (λ (r : ℕ). has r b) (sym (row_is c.chart a)) ∙ in_has (slice_index c.chart.rows a) b (linked a b la lb ne);
     others = λ a b h.
         let there : Linked c.chart.rows a b = has_in (slice_index c.chart.rows a) b (ap (λ (r : ℕ). has r b) (row_is c.chart a) ∙ h) in
         (c.chart.bounded a b there, λ q. c.chart.apart a (subst (λ (i : ℕ). Linked c.chart.rows a i) (sym q) there));

@@ -1,7 +1,7 @@
 -- Says and carries one after the other, over any carrier. Assumes nothing.
 --   Onward    n, f, the chart and who is astray are as they were, what was heard still is, and the toil fell by r at least
 --   Settled   so after r carries, and if that is fewer than the budget, nothing waits or there is no room
---   ToldAll  a note told: whether nothing waits is answered, and then each craft that is not astray heard it, if its author is not
+--   ToldAll   a note told: whether nothing waits is answered, and then each craft that is not astray heard it, if its author is not
 --   Tells     so where the say is accepted; where it is refused, nothing changes
 use Rattle.std.specs.Prelude.{◌≡◌, ℕ, ◌+◌, ◌<◌, ◌≤◌, Bool, true, ◌⊎◌, ◌++◌, Some, None, Ok, Err, Result, ◌==◌}
 use Rattle.refusals.specs.declared.Fault.{Fault}

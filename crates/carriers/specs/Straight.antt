@@ -1,11 +1,11 @@
 -- What each call does to what was heard and what waits, where every two craft are linked. Assumes nothing.
---   has-removed, all-removed   an entry taken out of a list
+--   has-removed, all_removed   an entry taken out of a list
 --   adds_none                  what was heard before adds nothing
---   flows-say                  an author says a sound note, and puts it to all its neighbours
---   Straight, is-straight      what a straight entry is known to have
---   flows-drop                 an entry is taken that is not straight, or was heard before
---   flows-hear                 an entry is taken and heard
---   flows-meddle               a craft puts a frame, and is astray
+--   flows_say                  an author says a sound note, and puts it to all its neighbours
+--   Straight, is_straight_lem      what a straight entry is known to have
+--   flows_drop                 an entry is taken that is not straight, or was heard before
+--   flows_hear                 an entry is taken and heard
+--   flows_meddle               a craft puts a frame, and is astray
 use Rattle.std.specs.Prelude.{◌≡◌, ℕ, suc, ◌+◌, ◌-◌, ◌<◌, ◌≤◌, Bool, true, false, ◌&&◌, ◌||◌, ◌⊎◌, List, [], ◌∷◌, ◌++◌, length, get_or, ◌==◌, ◌≢◌, slice_index, slice_index_or, refl}
 use Rattle.std.proofs.Common.{sym, ap, subst, ◌∙◌, inl, inr, ⊎_elim, arith}
 use Rattle.std.specs.List.{remove, ContainsAt as Has, AllByRecursion as All}
@@ -18,12 +18,12 @@ use Rattle.sets.proofs.Members.{adding-has, adding_lacks, only_lacks}
 use Rattle.frames.specs.declared.notes.Note.{Note}
 use Rattle.frames.specs.declared.notes.Frame.{Frame}
 use Rattle.frames.specs.Notes.{sound, same_note}
-use Rattle.frames.proofs.NoteLaws.{same-note-eq}
+use Rattle.frames.proofs.NoteLaws.{same_note_eq}
 use Rattle.links.specs.declared.entries.Entry.{Entry}
 use Rattle.links.specs.Meanings.{entry_to, sent}
 use Rattle.agreement.specs.Meanings.{Meaning}
 use Rattle.agreement.specs.Carrying.{Adds}
-use Rattle.agreement.proofs.HeardNotes.{adds_cases, adds-keeps, adds_it}
+use Rattle.agreement.proofs.HeardNotes.{adds_cases, adds_keeps, adds_it}
 use Rattle.carriers.specs.Directs.{own_frame, straight, Linked, Truthful, Flows}
 use Rattle.carriers.specs.Meshes.{Meshed}
 
@@ -40,14 +40,14 @@ module _ {X : Type 0} where
       inr (i - 1, omega arith, λ d. get_or-remove_above xs k d (i - 1) (omega arith) l ∙ ap (λ (j : ℕ). get_or xs j d) s ∙ at d)))
       (cases_order i k)
 
-  pub all-removed : (P : X → Type 0) (xs : List X) (k : ℕ) → All P xs → All P (remove xs k)
-  all-removed P xs k h = All-append P _ _ (All-take P k xs h) (All-drop P (suc k) xs h)
+  pub all_removed : (P : X → Type 0) (xs : List X) (k : ℕ) → All P xs → All P (remove xs k)
+  all_removed P xs k h = All-append P _ _ (All-take P k xs h) (All-drop P (suc k) xs h)
 
 -- ---- what is said
 
-or-false : (p : Bool) → p ≡ (p || false)
-or-false true = refl
-or-false false = refl
+or_false : (p : Bool) → p ≡ (p || false)
+or_false true = refl
+or_false false = refl
 
 pub adds_none : (m : Meaning) (l a : ℕ) (x : Note) → m.heard l a x ≡ true → Adds m l a x m
 adds_none m l a x e = record {
@@ -56,32 +56,32 @@ adds_none m l a x e = record {
       let i = and_parts _ _ t in
       let j = and_parts _ _ i.1 in
       let there : m.heard p b y ≡ true = ap (λ (q : ℕ). m.heard q b y) (sym (eqb-true l p i.0)) ∙ ap (λ (q : ℕ). m.heard l q y) (sym (eqb-true a b j.0))
-      ∙ ap (λ (z : Note). m.heard l a z) (sym (same-note-eq x y j.1)) ∙ e in
+      ∙ ap (λ (z : Note). m.heard l a z) (sym (same_note_eq x y j.1)) ∙ e in
       there ∙ sym (or_left (m.heard p b y) _ there))
-      (λ t. or-false (m.heard p b y) ∙ ap (λ (c : Bool). m.heard p b y || c) (sym t))
+      (λ t. or_false (m.heard p b y) ∙ ap (λ (c : Bool). m.heard p b y || c) (sym t))
       (cases_Bool (l == p && (a == b && same_note x y)));
 }
 
 -- exactly one triple more: an entry stays truthful
-truthful-more : {astray : ℕ} {m m' : Meaning} {l a : ℕ} {x : Note} → Adds m l a x m' → (e : Entry) → Truthful astray m.heard e → Truthful astray m'.heard e
-truthful-more adds e t = record { own = λ loyal. let o = t.own loyal in (o.0, adds-keeps adds _ _ _ o.1) }
+truthful_more : {astray : ℕ} {m m' : Meaning} {l a : ℕ} {x : Note} → Adds m l a x m' → (e : Entry) → Truthful astray m.heard e → Truthful astray m'.heard e
+truthful_more adds e t = record { own = λ loyal. let o = t.own loyal in (o.0, adds_keeps adds _ _ _ o.1) }
 
 module _ (n astray : ℕ) (m m' : Meaning) (ws : List Entry) where
-  pub flows-say : (rows : List ℕ) (a : ℕ) (x : Note) → n ≤ labels → Meshed rows n → a < n → sound n a x ≡ true → Adds m a a x m'
+  pub flows_say : (rows : List ℕ) (a : ℕ) (x : Note) → n ≤ labels → Meshed rows n → a < n → sound n a x ≡ true → Adds m a a x m'
       → Flows n astray m.heard ws → Flows n astray m'.heard (ws ++ sent a (slice_index rows a) (own_frame a x))
-  flows-say rows a x le full la ok adds f = record {
+  flows_say rows a x le full la ok adds f = record {
     linked = All-append (Linked n) _ _ f.linked
         (each_all (entry_to a (own_frame a x)) (slice_index rows a) (Linked n) labels (λ k l e. let o = full.others a k e in record { from = la; to = o.0; apart = o.1 }));
-    truthful = All-append (Truthful astray m'.heard) _ _ (All-weaker (Truthful astray m.heard) (Truthful astray m'.heard) (truthful-more adds) ws f.truthful)
+    truthful = All-append (Truthful astray m'.heard) _ _ (All-weaker (Truthful astray m.heard) (Truthful astray m'.heard) (truthful_more adds) ws f.truthful)
         (each_all (entry_to a (own_frame a x)) (slice_index rows a) (Truthful astray m'.heard) labels (λ k l e. record { own = λ _. (refl, adds_it adds) }));
     sound = λ b y e. ⊎_elim (f.sound b y)
         (λ p. subst (λ (i : ℕ). sound n i y ≡ true) p.0 (subst (λ (z : Note). sound n a z ≡ true) p.2 ok))
         (adds_cases adds b b y e);
-    said = λ l b y loyal e. ⊎_elim (λ old. adds-keeps adds b b y (f.said l b y loyal old))
+    said = λ l b y loyal e. ⊎_elim (λ old. adds_keeps adds b b y (f.said l b y loyal old))
         (λ p. subst (λ (i : ℕ). m'.heard i i y ≡ true) p.1 (subst (λ (z : Note). m'.heard a a z ≡ true) p.2 (adds_it adds)))
         (adds_cases adds l b y e);
     due = λ l b y ll lb ne e. ⊎_elim
-        (λ old. ⊎_elim (λ (t : m.heard l b y ≡ true). inl (adds-keeps adds l b y t)) (λ w. inr (has_append_left ws _ _ w)) (f.due l b y ll lb ne old))
+        (λ old. ⊎_elim (λ (t : m.heard l b y ≡ true). inl (adds_keeps adds l b y t)) (λ w. inr (has_append_left ws _ _ w)) (f.due l b y ll lb ne old))
         (λ p.
         let there : Has (ws ++ sent a (slice_index rows a) (own_frame a x)) (entry_to a (own_frame a x) l) =
         has_append_right ws _ _ (each-has (entry_to a (own_frame a x)) (slice_index rows a) labels l (omega arith) (full.all a l la ll (λ q. ne (sym q ∙ p.0)))) in
@@ -93,9 +93,9 @@ module _ (n astray : ℕ) (m m' : Meaning) (ws : List Entry) where
 -- ---- what is taken
 
 -- an author's own entry of a sound note is straight
-honest-straight : (n : ℕ) (e : Entry) (l a : ℕ) (x : Note) → l < n → a < n → (l ≢ a) → sound n a x ≡ true
+honest_straight : (n : ℕ) (e : Entry) (l a : ℕ) (x : Note) → l < n → a < n → (l ≢ a) → sound n a x ≡ true
     → e ≡ entry_to a (own_frame a x) l → straight n e ≡ true
-honest-straight n e l a x ll la ne ok q =
+honest_straight n e l a x ll la ne ok q =
     subst (λ (z : Entry). straight n z ≡ true) (sym q)
     (and_from _ _ (lt-ltb l n ll) (and_from _ _ (lt-ltb a n la) (and_from _ _ (not_from_false _ (ne_eqb a l (λ p. ne (sym p)))) (and_from _ _ (eq-eqb a a refl) ok))))
 
@@ -106,8 +106,8 @@ pub record Straight (n : ℕ) (e : Entry) : Type 0 where
   pub author : e.frame.author ≡ e.from
   pub sound : sound n e.from e.frame.note ≡ true
 
-pub is-straight : (n : ℕ) (e : Entry) → straight n e ≡ true → Straight n e
-is-straight n e h =
+pub is_straight_lem : (n : ℕ) (e : Entry) → straight n e ≡ true → Straight n e
+is_straight_lem n e h =
     let p = and_parts _ _ h in
     let q = and_parts _ _ p.1 in
     let r = and_parts _ _ q.1 in
@@ -127,32 +127,32 @@ module _ (n astray : ℕ) (m : Meaning) (ws : List Entry) (k : ℕ) (e : Entry) 
   waited : (P : Entry → Type 0) → All P ws → P e
   waited P all = subst P at (All-get_or P ws k e lt all)
 
-  pub flows-drop : (straight n e ≡ true → m.heard e.to e.from e.frame.note ≡ true) → Flows n astray m.heard (remove ws k)
-  flows-drop old = record {
-    linked = all-removed (Linked n) ws k f.linked;
-    truthful = all-removed (Truthful astray m.heard) ws k f.truthful;
+  pub flows_drop : (straight n e ≡ true → m.heard e.to e.from e.frame.note ≡ true) → Flows n astray m.heard (remove ws k)
+  flows_drop old = record {
+    linked = all_removed (Linked n) ws k f.linked;
+    truthful = all_removed (Truthful astray m.heard) ws k f.truthful;
     sound = f.sound;
     said = f.said;
     due = λ l a x ll la ne s. ⊎_elim (λ (t : m.heard l a x ≡ true). inl t)
         (λ w. ⊎_elim
         (λ (q : e ≡ entry_to a (own_frame a x) l).
-        inl (subst (λ (z : Entry). m.heard z.to z.from z.frame.note ≡ true) q (old (honest-straight n e l a x ll la ne (f.sound a x s) q))))
+        inl (subst (λ (z : Entry). m.heard z.to z.from z.frame.note ≡ true) q (old (honest_straight n e l a x ll la ne (f.sound a x s) q))))
         (λ r. inr r) (has-removed ws k (entry_to a (own_frame a x) l) e lt at w))
         (f.due l a x ll la ne s);
   }
 
-  pub flows-hear : (m' : Meaning) → Straight n e → Adds m e.to e.from e.frame.note m' → Flows n astray m'.heard (remove ws k)
-  flows-hear m' str adds = record {
-    linked = all-removed (Linked n) ws k f.linked;
-    truthful = All-weaker (Truthful astray m.heard) (Truthful astray m'.heard) (truthful-more adds) (remove ws k) (all-removed (Truthful astray m.heard) ws k f.truthful);
+  pub flows_hear : (m' : Meaning) → Straight n e → Adds m e.to e.from e.frame.note m' → Flows n astray m'.heard (remove ws k)
+  flows_hear m' str adds = record {
+    linked = all_removed (Linked n) ws k f.linked;
+    truthful = All-weaker (Truthful astray m.heard) (Truthful astray m'.heard) (truthful_more adds) (remove ws k) (all_removed (Truthful astray m.heard) ws k f.truthful);
     sound = λ b y s. ⊎_elim (f.sound b y) (λ p. absurd (str.apart (p.0 ∙ sym p.1))) (adds_cases adds b b y s);
-    said = λ l b y loyal s. ⊎_elim (λ old. adds-keeps adds b b y (f.said l b y loyal old))
+    said = λ l b y loyal s. ⊎_elim (λ old. adds_keeps adds b b y (f.said l b y loyal old))
         (λ p.
         let own = (waited (Truthful astray m.heard) f.truthful).own (subst (λ (i : ℕ). has astray i ≡ false) (sym p.1) loyal) in
-        adds-keeps adds b b y (subst (λ (i : ℕ). m.heard i i y ≡ true) p.1 (subst (λ (z : Note). m.heard e.from e.from z ≡ true) p.2 own.1)))
+        adds_keeps adds b b y (subst (λ (i : ℕ). m.heard i i y ≡ true) p.1 (subst (λ (z : Note). m.heard e.from e.from z ≡ true) p.2 own.1)))
         (adds_cases adds l b y s);
     due = λ l a x ll la ne s. ⊎_elim
-        (λ old. ⊎_elim (λ (t : m.heard l a x ≡ true). inl (adds-keeps adds l a x t))
+        (λ old. ⊎_elim (λ (t : m.heard l a x ≡ true). inl (adds_keeps adds l a x t))
         (λ w. ⊎_elim
         (λ (q : e ≡ entry_to a (own_frame a x) l). inl (subst (λ (z : Entry). m'.heard z.to z.from z.frame.note ≡ true) q (adds_it adds)))
         (λ r. inr r) (has-removed ws k (entry_to a (own_frame a x) l) e lt at w))
@@ -164,8 +164,8 @@ module _ (n astray : ℕ) (m : Meaning) (ws : List Entry) (k : ℕ) (e : Entry) 
 -- ---- what a meddler puts
 
 module _ (n astray : ℕ) (h : ℕ → ℕ → Note → Bool) (ws : List Entry) where
-  pub flows-meddle : (c to : ℕ) (t : Frame) → c < n → to < n → (c ≢ to) → Flows n astray h ws → Flows n (adding c astray) h (ws ++ sent c (only to) t)
-  flows-meddle c to t lc lt ne f = record {
+  pub flows_meddle : (c to : ℕ) (t : Frame) → c < n → to < n → (c ≢ to) → Flows n astray h ws → Flows n (adding c astray) h (ws ++ sent c (only to) t)
+  flows_meddle c to t lc lt ne f = record {
     linked = All-append (Linked n) _ _ f.linked
         (each_all (entry_to c t) (only to) (Linked n) labels (λ k l e. ⊎_elim
         (λ (q : to ≡ k). record { from = lc; to = subst (λ (i : ℕ). i < n) q lt; apart = λ p. ne (p ∙ sym q) })

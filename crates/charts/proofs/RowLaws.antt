@@ -1,5 +1,5 @@
 -- What holds of sound rows. Assumes nothing.
---   sound-apart, sound-bounded, sound-mutual, sound-from   soundness and its parts
+--   sound_apart, sound_bounded, sound_mutual, sound_from   soundness and its parts
 --   empty_right, past_right   an empty row, and a row past the last, name rightly
 --   linked-below   both ends of a link are craft below n
 --   past_empty     rows at or past n are empty
@@ -11,22 +11,22 @@ use Rattle.std.proofs.lemmas.List.{get_or_past}
 use Rattle.std.proofs.lemmas.Bool.Decides.{same_from_decides, Decides-like}
 use Rattle.sets.specs.Sets.{bit, Within, has, inside, below}
 use Rattle.sets.proofs.Bits.{bit-zero, bit_below, same_bits}
-use Rattle.sets.proofs.Members.{has-decides, bit_lacks, not_in, within_by, within-inside, within-lt}
+use Rattle.sets.proofs.Members.{has_decides, bit_lacks, not_in, within_by, within_inside, within_lt}
 use Rattle.charts.specs.Rows.{Linked, Right, Sound, Apart, Bounded, Mutual}
 
 -- ---- the parts of soundness
 
-pub sound-apart : (n : ℕ) (rows : List ℕ) → Sound n rows → Apart rows
-sound-apart n rows s i l = (s i i l).0 refl
+pub sound_apart : (n : ℕ) (rows : List ℕ) → Sound n rows → Apart rows
+sound_apart n rows s i l = (s i i l).0 refl
 
-pub sound-bounded : (n : ℕ) (rows : List ℕ) → Sound n rows → Bounded n rows
-sound-bounded n rows s i j l = (s i j l).1
+pub sound_bounded : (n : ℕ) (rows : List ℕ) → Sound n rows → Bounded n rows
+sound_bounded n rows s i j l = (s i j l).1
 
-pub sound-mutual : (n : ℕ) (rows : List ℕ) → Sound n rows → Mutual rows
-sound-mutual n rows s i j l = (s i j l).2
+pub sound_mutual : (n : ℕ) (rows : List ℕ) → Sound n rows → Mutual rows
+sound_mutual n rows s i j l = (s i j l).2
 
-pub sound-from : (n : ℕ) (rows : List ℕ) → Apart rows → Bounded n rows → Mutual rows → Sound n rows
-sound-from n rows a b m i j l = (λ e. a i (subst (λ (x : ℕ). Linked rows i x) e l), b i j l, m i j l)
+pub sound_from : (n : ℕ) (rows : List ℕ) → Apart rows → Bounded n rows → Mutual rows → Sound n rows
+sound_from n rows a b m i j l = (λ e. a i (subst (λ (x : ℕ). Linked rows i x) e l), b i j l, m i j l)
 
 -- ---- rows that are not there
 
@@ -53,11 +53,11 @@ pub row_within : (n : ℕ) (rows : List ℕ) → Bounded n rows → (i : ℕ) �
 row_within n rows b i = within_by (get_or rows i 0) (below n) (λ j l. bit_below n j (b i j l))
 
 pub row_inside : (n : ℕ) (rows : List ℕ) → Bounded n rows → (i : ℕ) → inside (get_or rows i 0) (below n) ≡ true
-row_inside n rows b i = within-inside (get_or rows i 0) (below n) (row_within n rows b i)
+row_inside n rows b i = within_inside (get_or rows i 0) (below n) (row_within n rows b i)
 
 pub row_lt : (n : ℕ) (rows : List ℕ) → Bounded n rows → (i : ℕ) → get_or rows i 0 < 2 ^ n
-row_lt n rows b i = within-lt n (get_or rows i 0) (below n) (row_within n rows b i) (omega (arith, pow_pos n))
+row_lt n rows b i = within_lt n (get_or rows i 0) (below n) (row_within n rows b i) (omega (arith, pow_pos n))
 
 pub linked_both : (rows : List ℕ) → Mutual rows → (i j : ℕ) → has (get_or rows i 0) j ≡ has (get_or rows j 0) i
-linked_both rows m i j = same_from_decides _ _ (has-decides (get_or rows i 0) j)
-    (Decides-like (has (get_or rows j 0) i) (m j i) (m i j) (has-decides (get_or rows j 0) i))
+linked_both rows m i j = same_from_decides _ _ (has_decides (get_or rows i 0) j)
+    (Decides-like (has (get_or rows j 0) i) (m j i) (m i j) (has_decides (get_or rows j 0) i))

@@ -1,63 +1,63 @@
 -- The tests of rows and sizes decide what they say. Assumes nothing.
---   decides-sized      the test of the size
---   decides-answered   the test that who is named names back
---   answered-none, answered-more, answered-not   the same, one craft after the other
---   decides-right      the test of a row
+--   decides_sized      the test of the size
+--   decides_answered   the test that who is named names back
+--   answered_none, answered_more, answered-not   the same, one craft after the other
+--   decides_right      the test of a row
 use Rattle.std.proofs.Common.{◌≡◌, ℕ, ◌+◌, ◌-◌, ◌*◌, ◌<◌, ◌≤◌, Bool, true, false, not, ◌||◌, leb, List, get_or, Decides, refl, subst, ⊎_elim, arith, pow_pos, below_more}
 use Rattle.std.proofs.lemmas.Bool.Decides.{Decides-and, Decides-not, Decides-like, Decides-ltb, Decides-below_and, not_from_Decides}
 use Rattle.std.proofs.lemmas.Bool.{cases_Bool, leb-true, le-leb, both_ways, not-true, not_from_false, or_left, or_right, or_cases}
 use Rattle.sets.specs.Sets.{Within, has, below, labels}
 use Rattle.sets.proofs.Bits.{bit_below}
-use Rattle.sets.proofs.Members.{has-decides, inside-decides, in-below, within_in, within_by}
+use Rattle.sets.proofs.Members.{has_decides, inside_decides, in_below, within_in, within_by}
 use Rattle.charts.specs.Rows.{Linked, Right, answered, right}
 use Rattle.charts.specs.Causes.{Sized, sized}
 
 -- ---- the size
 
-decides-leb : (a b : ℕ) → Decides (leb a b) (a ≤ b)
-decides-leb a b = (leb-true a b, le-leb a b)
+decides_leb : (a b : ℕ) → Decides (leb a b) (a ≤ b)
+decides_leb a b = (leb-true a b, le-leb a b)
 
-pub decides-sized : (n f : ℕ) → Decides (sized n f) (Sized n f)
-decides-sized n f = Decides-like (sized n f) (λ p. (p.0, p.1.0, p.1.1)) (λ p. (p.0, (p.1, p.2)))
-    (Decides-and _ _ (decides-leb 2 n) (Decides-and _ _ (decides-leb n labels) (Decides-ltb (3 * f) n)))
+pub decides_sized : (n f : ℕ) → Decides (sized n f) (Sized n f)
+decides_sized n f = Decides-like (sized n f) (λ p. (p.0, p.1.0, p.1.1)) (λ p. (p.0, (p.1, p.2)))
+    (Decides-and _ _ (decides_leb 2 n) (Decides-and _ _ (decides_leb n labels) (Decides-ltb (3 * f) n)))
 
 -- ---- a row
 
 -- where x, there y
-decides-if : {P Q : Type 0} (x y : Bool) → Decides x P → Decides y Q → Decides (not x || y) (P → Q)
-decides-if x y p q = (
+decides_if : {P Q : Type 0} (x y : Bool) → Decides x P → Decides y Q → Decides (not x || y) (P → Q)
+decides_if x y p q = (
   λ e h. ⊎_elim (λ (f : not x ≡ true). absurd (both_ways x (not-true x f) (p.1 h))) (λ f. q.0 f) (or_cases (not x) y e),
   λ h. ⊎_elim (λ (e : x ≡ true). or_right (not x) y (q.1 (h (p.0 e)))) (λ e. or_left (not x) y (not_from_false x e)) (cases_Bool x),
 )
 
 module _ (rows : List ℕ) (i : ℕ) where
-  pub decides-answered : (k : ℕ) → Decides (answered rows i k) ((j : ℕ) → j < k → Linked rows i j → Linked rows j i)
+  pub decides_answered : (k : ℕ) → Decides (answered rows i k) ((j : ℕ) → j < k → Linked rows i j → Linked rows j i)
   unfolding answered
-  decides-answered k = Decides-below_and
+  decides_answered k = Decides-below_and
       (λ j. not (has (get_or rows i 0) j) || has (get_or rows j 0) i) (λ j. Linked rows i j → Linked rows j i) (answered rows i)
-      (λ j. decides-if _ _ (has-decides (get_or rows i 0) j) (has-decides (get_or rows j 0) i)) refl (λ _. refl) k
+      (λ j. decides_if _ _ (has_decides (get_or rows i 0) j) (has_decides (get_or rows j 0) i)) refl (λ _. refl) k
 
-  pub answered-none : answered rows i 0 ≡ true
+  pub answered_none : answered rows i 0 ≡ true
   unfolding answered
-  answered-none = refl
+  answered_none = refl
 
   -- one craft more, not named or naming back
-  pub answered-more : (j : ℕ) → answered rows i j ≡ true → (has (get_or rows i 0) j ≡ true → has (get_or rows j 0) i ≡ true)
+  pub answered_more : (j : ℕ) → answered rows i j ≡ true → (has (get_or rows i 0) j ≡ true → has (get_or rows j 0) i ≡ true)
       → answered rows i (j + 1) ≡ true
-  answered-more j h t = (decides-answered (j + 1)).1 (below_more (λ k. Linked rows i k → Linked rows k i) j ((decides-answered j).0 h)
-      (λ l. (has-decides (get_or rows j 0) i).0 (t ((has-decides (get_or rows i 0) j).1 l))))
+  answered_more j h t = (decides_answered (j + 1)).1 (below_more (λ k. Linked rows i k → Linked rows k i) j ((decides_answered j).0 h)
+      (λ l. (has_decides (get_or rows j 0) i).0 (t ((has_decides (get_or rows i 0) j).1 l))))
 
   -- one that is named and does not name back
   pub answered-not : (k j : ℕ) → j < k → has (get_or rows i 0) j ≡ true → has (get_or rows j 0) i ≡ false → answered rows i k ≡ false
   answered-not k j l p q = ⊎_elim
       (λ (h : answered rows i k ≡ true).
-      absurd (not_from_Decides _ (has-decides (get_or rows j 0) i) q ((decides-answered k).0 h j l ((has-decides (get_or rows i 0) j).0 p))))
+      absurd (not_from_Decides _ (has_decides (get_or rows j 0) i) q ((decides_answered k).0 h j l ((has_decides (get_or rows i 0) j).0 p))))
       (λ h. h) (cases_Bool (answered rows i k))
 
   right-parts : (n : ℕ) → Within (get_or rows i 0) (below n) × ((Linked rows i i → ⊥) × ((j : ℕ) → j < n → Linked rows i j → Linked rows j i))
       → Right n rows i
   right-parts n (w, (a, h)) j l =
-      let under : j < n = in-below n (below n) j (omega (arith, pow_pos n)) (within_in (get_or rows i 0) (below n) j w l) in
+      let under : j < n = in_below n (below n) j (omega (arith, pow_pos n)) (within_in (get_or rows i 0) (below n) j w l) in
       (λ e. a (subst (λ (x : ℕ). Linked rows i x) e l), under, h j under l)
 
   parts-right : (n : ℕ) → Right n rows i
@@ -67,7 +67,7 @@ module _ (rows : List ℕ) (i : ℕ) where
     (λ l. (r i l).0 refl, λ j b l. (r j l).2),
   )
 
-  pub decides-right : (n : ℕ) → Decides (right n rows i) (Right n rows i)
-  decides-right n = Decides-like (right n rows i) (right-parts n) (parts-right n)
-      (Decides-and _ _ (inside-decides (get_or rows i 0) (below n))
-      (Decides-and _ _ (Decides-not _ (has-decides (get_or rows i 0) i)) (decides-answered n)))
+  pub decides_right : (n : ℕ) → Decides (right n rows i) (Right n rows i)
+  decides_right n = Decides-like (right n rows i) (right-parts n) (parts-right n)
+      (Decides-and _ _ (inside_decides (get_or rows i 0) (below n))
+      (Decides-and _ _ (Decides-not _ (has_decides (get_or rows i 0) i)) (decides_answered n)))

@@ -1,9 +1,9 @@
 -- Which of the causes that are tested in turn is answered. Assumes nothing.
---   turn-none   where none is answered, none of any number's is
---   none-turn   where none of any number's is answered, none is
+--   turn_none   where none is answered, none of any number's is
+--   none_turn   where none of any number's is answered, none is
 --   turn_more   the turn at i answers none, as those before it
 --   turn_at     the turn at i answers, and those before it do not: that is the answer
---   turn-some   an answer is that of one number, and those before it have none
+--   turn_some   an answer is that of one number, and those before it have none
 use Rattle.std.proofs.Common.{◌≡◌, ℕ, zero, suc, ◌+◌, ◌<◌, ◌⊎◌, List, [], ◌∷◌, ◌++◌, Some, None, Option, sym, refl, ap, ◌∙◌, inl, inr, ⊎_elim, arith}
 use Rattle.std.proofs.lemmas.Bool.{cases_Bool, cases_eq, cond-true, cond-false}
 use Rattle.refusals.specs.Refusals.{Cause, Told, refusal}
@@ -12,8 +12,8 @@ use Rattle.charts.specs.InTurn.{in_turn}
 
 -- ---- an answer or none
 
-pub some-none : {A : Type 0} (a : A) (o : Option A) → o ≡ Some a → o ≡ None → ⊥
-some-none a o p q = let z : ◌≡◌ {A = ℕ} 0 1 = cc in omega arith
+pub some_none : {A : Type 0} (a : A) (o : Option A) → o ≡ Some a → o ≡ None → ⊥
+some_none a o p q = let z : ◌≡◌ {A = ℕ} 0 1 = cc in omega arith
 
 pub cases_option : {A : Type 0} (o : Option A) → (o ≡ None) ⊎ ((a : A) × (o ≡ Some a))
 cases_option None = inl refl
@@ -21,11 +21,11 @@ cases_option (Some a) = inr (a, refl)
 
 -- ---- causes before others
 
-pub append-none : (a b : List Cause) → refusal (a ++ b) ≡ None → (refusal a ≡ None) × (refusal b ≡ None)
-append-none [] b h = (refl, h)
-append-none (c ∷ cs) b h =
+pub append_none : (a b : List Cause) → refusal (a ++ b) ≡ None → (refusal a ≡ None) × (refusal b ≡ None)
+append_none [] b h = (refl, h)
+append_none (c ∷ cs) b h =
     let p = passed c.holds c.tells (refusal (cs ++ b)) h in
-    let q = append-none cs b p.1 in
+    let q = append_none cs b p.1 in
     (cond-false c.holds (Some c.tells) (refusal cs) p.0 ∙ q.0, q.1)
 
 pub append_later : (a b : List Cause) → refusal a ≡ None → refusal (a ++ b) ≡ refusal b
@@ -35,7 +35,7 @@ append_later (c ∷ cs) b h =
     cond-false c.holds (Some c.tells) (refusal (cs ++ b)) p.0 ∙ append_later cs b p.1
 
 pub append_earlier : (a b : List Cause) (t : Told) → refusal a ≡ Some t → refusal (a ++ b) ≡ Some t
-append_earlier [] b t h = absurd (some-none t None h refl)
+append_earlier [] b t h = absurd (some_none t None h refl)
 append_earlier (c ∷ cs) b t h = ⊎_elim
     (λ e. cond-true c.holds (Some c.tells) (refusal (cs ++ b)) e ∙ sym (cond-true c.holds (Some c.tells) (refusal cs) e) ∙ h)
     (λ e.
@@ -46,21 +46,21 @@ append_earlier (c ∷ cs) b t h = ⊎_elim
 -- ---- in turn
 
 module _ (g : ℕ → List Cause) where
-  pub turn-none : (k i : ℕ) → refusal (in_turn g k) ≡ None → i < k → refusal (g i) ≡ None
+  pub turn_none : (k i : ℕ) → refusal (in_turn g k) ≡ None → i < k → refusal (g i) ≡ None
   unfolding in_turn
-  turn-none zero i e l = absurd (omega arith)
-  turn-none (suc k) i e l =
-      let p = append-none (in_turn g k) (g k) e in
-      ⊎_elim (λ (q : i ≡ k). ap (λ (x : ℕ). refusal (g x)) q ∙ p.1) (λ ne. turn-none k i p.0 (omega arith)) (cases_eq i k)
+  turn_none zero i e l = absurd (omega arith)
+  turn_none (suc k) i e l =
+      let p = append_none (in_turn g k) (g k) e in
+      ⊎_elim (λ (q : i ≡ k). ap (λ (x : ℕ). refusal (g x)) q ∙ p.1) (λ ne. turn_none k i p.0 (omega arith)) (cases_eq i k)
 
-  pub none-turn : (k : ℕ) → ((i : ℕ) → i < k → refusal (g i) ≡ None) → refusal (in_turn g k) ≡ None
+  pub none_turn : (k : ℕ) → ((i : ℕ) → i < k → refusal (g i) ≡ None) → refusal (in_turn g k) ≡ None
   unfolding in_turn
-  none-turn zero h = refl
-  none-turn (suc k) h = append_later (in_turn g k) (g k) (none-turn k (λ i l. h i (omega arith))) ∙ h k (omega arith)
+  none_turn zero h = refl
+  none_turn (suc k) h = append_later (in_turn g k) (g k) (none_turn k (λ i l. h i (omega arith))) ∙ h k (omega arith)
 
   pub turn_more : (i : ℕ) → refusal (in_turn g i) ≡ None → refusal (g i) ≡ None → refusal (in_turn g (i + 1)) ≡ None
-  turn_more i p q = none-turn (i + 1) (λ j l.
-      ⊎_elim (λ (e : j ≡ i). ap (λ (x : ℕ). refusal (g x)) e ∙ q) (λ ne. turn-none i j p (omega arith)) (cases_eq j i))
+  turn_more i p q = none_turn (i + 1) (λ j l.
+      ⊎_elim (λ (e : j ≡ i). ap (λ (x : ℕ). refusal (g x)) e ∙ q) (λ ne. turn_none i j p (omega arith)) (cases_eq j i))
 
   pub turn_at : (k i : ℕ) (t : Told) → i < k → refusal (in_turn g i) ≡ None → refusal (g i) ≡ Some t → refusal (in_turn g k) ≡ Some t
   unfolding in_turn
@@ -70,14 +70,14 @@ module _ (g : ℕ → List Cause) where
       append_later (in_turn g k) (g k) (ap (λ (x : ℕ). refusal (in_turn g x)) (sym e) ∙ p) ∙ ap (λ (x : ℕ). refusal (g x)) (sym e) ∙ q)
       (λ ne. append_earlier (in_turn g k) (g k) t (turn_at k i t (omega arith) p q)) (cases_eq i k)
 
-  pub turn-some : (k : ℕ) (t : Told) → refusal (in_turn g k) ≡ Some t
+  pub turn_some : (k : ℕ) (t : Told) → refusal (in_turn g k) ≡ Some t
       → (i : ℕ) × (i < k) × (refusal (g i) ≡ Some t) × ((j : ℕ) → j < i → refusal (g j) ≡ None)
   unfolding in_turn
-  turn-some zero t e = absurd (some-none t None e refl)
-  turn-some (suc k) t e = ⊎_elim
-      (λ (p : refusal (in_turn g k) ≡ None). (k, omega arith, sym (append_later (in_turn g k) (g k) p) ∙ e, λ j l. turn-none k j p l))
+  turn_some zero t e = absurd (some_none t None e refl)
+  turn_some (suc k) t e = ⊎_elim
+      (λ (p : refusal (in_turn g k) ≡ None). (k, omega arith, sym (append_later (in_turn g k) (g k) p) ∙ e, λ j l. turn_none k j p l))
       (λ p.
       let same : Some p.0 ≡ Some t = sym (append_earlier (in_turn g k) (g k) p.0 p.1) ∙ e in
-      let r = turn-some k t (p.1 ∙ same) in
+      let r = turn_some k t (p.1 ∙ same) in
       (r.0, omega (arith, r.1), r.2, r.3))
       (cases_option (refusal (in_turn g k)))

@@ -1,6 +1,6 @@
 -- Worked examples: two faulty craft want at least seven. Assumes nothing.
 --   seven          the rows of seven craft, each linked with every other
---   WorkedSizes   whatever their rows, six craft are refused by 2 with 6, and seven by no cause but 3; the rows of `seven` make a chart
+--   WorkedSizes    whatever their rows, six craft are refused by 2 with 6, and seven by no cause but 3; the rows of `seven` make a chart
 use Rattle.std.specs.Prelude.{◌≡◌, ℕ, List, [], ◌∷◌, length, Some, None}
 use Rattle.refusals.specs.Refusals.{Told, refusal}
 use Rattle.charts.specs.Causes.{chart_causes, size_told}

@@ -1,6 +1,6 @@
 -- Opening on given rows, in its two steps. Assumes nothing.
 --   relay_uncharted, direct_uncharted   rows that make no chart are refused for that
---   relay_opened, direct-opened   the chart of the rows, tested
+--   relay_opened, direct_opened   the chart of the rows, tested
 use Rattle.std.proofs.Common.{◌≡◌, ℕ, ◌*◌, ◌⊎◌, List, [], ◌∷◌, ◌++◌, length, Some, None, Ok, Err, Option, Result, sym, refl, ap, ◌∙◌, subst, inl, inr, ⊎_elim}
 use Rattle.std.proofs.lemmas.Bool.{lt-ltb}
 use Rattle.refusals.specs.declared.Fault.{Fault}
@@ -10,7 +10,7 @@ use Rattle.charts.specs.Rows.{Bounded, padded}
 use Rattle.charts.specs.Causes.{WrongSize, WrongRow, chart_causes}
 use Rattle.charts.specs.Charts.{Accepted}
 use Rattle.charts.proofs.TurnLaws.{append_later, append_earlier}
-use Rattle.charts.proofs.RowLaws.{sound-bounded}
+use Rattle.charts.proofs.RowLaws.{sound_bounded}
 use Rattle.charts.proofs.Padding.{getD_padded}
 use Rattle.cuts.specs.declared.passed.PassedChart.{PassedChart}
 use Rattle.cuts.specs.declared.complete.CompleteChart.{CompleteChart}
@@ -18,13 +18,13 @@ use Rattle.cuts.specs.Pairs.{in_pairs}
 use Rattle.cuts.specs.Causes.{size_cause, thin_causes, unlinked_cause, relay_causes, direct_causes, open_relay_causes, open_direct_causes}
 use Rattle.cuts.specs.Tested.{RelayTested, DirectTested, RelayOpened, DirectOpened}
 use Rattle.cuts.proofs.SizeLaws.{size_asked}
-use Rattle.cuts.proofs.SameRows.{pairs-same, thin_same, unlinked-same}
+use Rattle.cuts.proofs.SameRows.{pairs_same, thin_same, unlinked_same}
 use Rattle.cuts.proofs.RelayLaws.{thin_passed, thin_first}
-use Rattle.cuts.proofs.DirectLaws.{linked-complete, linked-first}
+use Rattle.cuts.proofs.DirectLaws.{linked_complete, linked-first}
 
 module _ (rows : List ℕ) (f : ℕ) (c : Chart) (none : refusal (chart_causes rows f) ≡ None) (acc : Accepted rows f c) where
   bounded : Bounded (length rows) rows
-  bounded = sound-bounded (length rows) rows acc.sound
+  bounded = sound_bounded (length rows) rows acc.sound
 
   -- the causes for pairs alone are left
   left : (cs : List Cause) → refusal (chart_causes rows f ++ cs) ≡ refusal cs
@@ -39,16 +39,16 @@ module _ (rows : List ℕ) (f : ℕ) (c : Chart) (none : refusal (chart_causes r
       ∙ ap (λ (r : List ℕ). refusal (relay_causes (length rows) f r)) acc.whole
       ∙ tested (in_pairs (thin_causes (length rows) (padded rows) (2 * f)) (length rows) (length rows))
       ∙ ap (λ (cs : List Cause). refusal cs)
-      (pairs-same (thin_causes (length rows) (padded rows) (2 * f)) (thin_causes (length rows) rows (2 * f))
+      (pairs_same (thin_causes (length rows) (padded rows) (2 * f)) (thin_causes (length rows) rows (2 * f))
       (thin_same (padded rows) rows (getD_padded rows) (length rows) (2 * f)) (length rows) (length rows))
 
-  direct-pairs : refusal (direct_causes c.n f c.rows) ≡ refusal (in_pairs (unlinked_cause rows) (length rows) (length rows))
-  direct-pairs =
+  direct_pairs : refusal (direct_causes c.n f c.rows) ≡ refusal (in_pairs (unlinked_cause rows) (length rows) (length rows))
+  direct_pairs =
       ap (λ (n : ℕ). refusal (direct_causes n f c.rows)) acc.size
       ∙ ap (λ (r : List ℕ). refusal (direct_causes (length rows) f r)) acc.whole
       ∙ tested (in_pairs (unlinked_cause (padded rows)) (length rows) (length rows))
       ∙ ap (λ (cs : List Cause). refusal cs)
-      (pairs-same (unlinked_cause (padded rows)) (unlinked_cause rows) (unlinked-same (padded rows) rows (getD_padded rows)) (length rows) (length rows))
+      (pairs_same (unlinked_cause (padded rows)) (unlinked_cause rows) (unlinked_same (padded rows) rows (getD_padded rows)) (length rows) (length rows))
 
   pub relay_opened : (r : Result PassedChart Fault) → RelayTested c f r → RelayOpened rows f r
   relay_opened (Ok p) h =
@@ -63,16 +63,16 @@ module _ (rows : List ℕ) (f : ℕ) (c : Chart) (none : refusal (chart_causes r
       let r = thin_first n f rows bounded (told x) e in
       (left cs ∙ e, inr (inr (record { low = r.0; high = r.1; set = r.2; says = r.3; enough = acc.enough.2; first = r.4 })))
 
-  pub direct-opened : (r : Result CompleteChart Fault) → DirectTested c f r → DirectOpened rows f r
-  direct-opened (Ok p) h =
+  pub direct_opened : (r : Result CompleteChart Fault) → DirectTested c f r → DirectOpened rows f r
+  direct_opened (Ok p) h =
       let n = length rows in
       let cs = in_pairs (unlinked_cause rows) n n in
-      let e : refusal cs ≡ None = sym direct-pairs ∙ h.0 in
-      (left cs ∙ e, subst (Accepted rows f) (sym h.1) acc, h.2, linked-complete n f rows e)
-  direct-opened (Err x) h =
+      let e : refusal cs ≡ None = sym direct_pairs ∙ h.0 in
+      (left cs ∙ e, subst (Accepted rows f) (sym h.1) acc, h.2, linked_complete n f rows e)
+  direct_opened (Err x) h =
       let n = length rows in
       let cs = in_pairs (unlinked_cause rows) n n in
-      let e : refusal cs ≡ Some (told x) = sym direct-pairs ∙ h.0 in
+      let e : refusal cs ≡ Some (told x) = sym direct_pairs ∙ h.0 in
       let r = linked-first n f rows (told x) e in
       (left cs ∙ e, inr (inr (record { low = r.0; high = r.1; says = r.2; enough = acc.enough.2; first = r.3 })))
 

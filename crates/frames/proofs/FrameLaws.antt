@@ -18,7 +18,7 @@ use Rattle.frames.specs.Notes.{step_byte}
 use Rattle.refusals.specs.Refusals.{refusal, told}
 use Rattle.refusals.proofs.FirstCause.{passed}
 use Rattle.frames.proofs.NoteLaws.{same_step}
-use Rattle.matter.proofs.Words.{bytes_of-word-in, word-in-bytes}
+use Rattle.matter.proofs.Words.{bytes_of_word_in, word_in_bytes}
 
 layout-accepted : (s : steps.Step) (h : Head) (w : ℕ) → refusal (read_causes (layout (step_byte s) h (word_bytes w))) ≡ None
 layout-accepted step.Send h w = refl
@@ -50,15 +50,15 @@ content_eight bytes n h content ok e =
     omega arith
 
 -- a byte of the content is a byte that was read
-content-fits : (bytes : List ℕ) (n : ℕ) (h : Head) (content : List ℕ) → bytes ≡ layout n h content → ((i : ℕ) → get_or bytes i 0 < 256) → (i : ℕ) → get_or content i 0 < 256
-content-fits bytes n h content e fits i =
+content_fits : (bytes : List ℕ) (n : ℕ) (h : Head) (content : List ℕ) → bytes ≡ layout n h content → ((i : ℕ) → get_or bytes i 0 < 256) → (i : ℕ) → get_or content i 0 < 256
+content_fits bytes n h content e fits i =
     let g : get_or bytes (suc (suc (suc (suc (suc (suc (suc i))))))) 0 ≡ get_or content i 0 = ap (λ (l : List ℕ). get_or l (suc (suc (suc (suc (suc (suc (suc i))))))) 0) e in
     omega (arith, fits (suc (suc (suc (suc (suc (suc (suc i))))))))
 
 taken : (bytes : List ℕ) (s : steps.Step) (h : Head) (content : List ℕ) (f : Result Frame Fault) → ((i : ℕ) → get_or bytes i 0 < 256)
     → refusal (read_causes bytes) ≡ None → bytes ≡ layout (step_byte s) h content → TakenApart s h content f → FrameRead bytes f
 taken bytes s h content (Ok f) fits ok e t =
-    let w = bytes_of-word-in content (content_eight bytes (step_byte s) h content ok e) (content-fits bytes (step_byte s) h content e fits) in (
+    let w = bytes_of_word_in content (content_eight bytes (step_byte s) h content ok e) (content_fits bytes (step_byte s) h content e fits) in (
       ok,
       e ∙ ap (λ (l : List ℕ). layout (step_byte s) h l) (sym w) ∙ ap frame_bytes (sym t.1),
       ap (λ (g : Frame). g.note.content) t.1 ∙ ap (λ (l : List ℕ). word_in (drop 7 l)) (sym e),
@@ -73,7 +73,7 @@ pub frame_read : (bytes : List ℕ) (r : Received) (f : Result Frame Fault) → 
 frame_read bytes r f fits h t = taken bytes (step_of r) (head_of r) (content_of r) f fits h.0 h.1 t
 
 pub reads_back : (f : Frame) (r : Result Frame Fault) → f.note.content < 2 ^ 64 → FrameRead (frame_bytes f) r → r ≡ Ok f
-reads_back f (Ok g) small h = ap Ok (sym (same_frame f g (sym (h.2 ∙ word-in-bytes f.note.content small)) h.1))
+reads_back f (Ok g) small h = ap Ok (sym (same_frame f g (sym (h.2 ∙ word_in_bytes f.note.content small)) h.1))
 reads_back f (Err e) small h =
     let a = frame_accepted f in
     let z : ◌≡◌ {A = ℕ} 0 1 = cc in

@@ -1,7 +1,7 @@
 -- Notes are told apart by their parts. Assumes nothing.
 --   same_step        steps with the same number are one
---   same-note-eq     notes with the same parts are one
---   same-note_self   a note has the parts that it has
+--   same_note_eq     notes with the same parts are one
+--   same_note_self   a note has the parts that it has
 use Rattle.std.proofs.Common.{◌≡◌, ℕ, true, refl, arith}
 use Rattle.std.proofs.lemmas.Bool.{and_parts, and_from, eqb-true, eq-eqb}
 use Rattle.frames.specs.declared.notes.Step as steps
@@ -20,18 +20,18 @@ same_step step.Ready step.Send e = absurd (omega arith)
 same_step step.Ready step.Echo e = absurd (omega arith)
 same_step step.Ready step.Ready e = refl
 
-note-is : (s t : steps.Step) (o p k l v w : ℕ) → s ≡ t → o ≡ p → k ≡ l → v ≡ w
+note_is : (s t : steps.Step) (o p k l v w : ℕ) → s ≡ t → o ≡ p → k ≡ l → v ≡ w
     → ◌≡◌ {A = Note} record { content = v; step = s; origin = o; number = k } record { content = w; step = t; origin = p; number = l }
-note-is s t o p k l v w es eo ek ev = cc
+note_is s t o p k l v w es eo ek ev = cc
 
-pub same-note-eq : (t u : Note) → same_note t u ≡ true → t ≡ u
-same-note-eq t u h =
+pub same_note_eq : (t u : Note) → same_note t u ≡ true → t ≡ u
+same_note_eq t u h =
     let p = and_parts _ _ h in
     let q = and_parts _ _ p.1 in
     let r = and_parts _ _ q.1 in
-    note-is t.step u.step t.origin u.origin t.number u.number t.content u.content
+    note_is t.step u.step t.origin u.origin t.number u.number t.content u.content
     (same_step t.step u.step (eqb-true _ _ p.0)) (eqb-true _ _ q.0) (eqb-true _ _ r.0) (eqb-true _ _ r.1)
 
-pub same-note_self : (t : Note) → same_note t t ≡ true
-same-note_self t =
+pub same_note_self : (t : Note) → same_note t t ≡ true
+same_note_self t =
     and_from _ _ (eq-eqb _ (step_byte t.step) refl) (and_from _ _ (eq-eqb _ t.origin refl) (and_from _ _ (eq-eqb _ t.number refl) (eq-eqb _ t.content refl)))

@@ -4,9 +4,9 @@ use borrow.Rule.Slice.PartMut.{put_mid}
 use Rattle.std.proofs.lemmas.List.{drop-drop, drop_all, append-nil, take_rest}
 use Rattle.frames.specs.Bytes.{placed}
 
-pub placed-rest : (xs : List ℕ) (a : ℕ) (ys part : List ℕ) → a ≤ length xs
+pub placed_rest : (xs : List ℕ) (a : ℕ) (ys part : List ℕ) → a ≤ length xs
     → part ≡ placed (take (length xs - a) (drop a xs)) 0 ys → put_mid a (length xs - a) xs part ≡ placed xs a ys
-placed-rest xs a ys part h e =
+placed_rest xs a ys part h e =
     let past : length xs ≤ a + (length xs - a) = omega arith in
     let none : drop (length xs - a) (drop a xs) ≡ [] = drop-drop (length xs - a) a xs ∙ drop_all (a + (length xs - a)) xs past in
     let front : part ≡ ys ++ drop (a + length ys) xs =

@@ -1,8 +1,8 @@
 -- What an entry list means. Assumes nothing.
 --   list_length   how many entries of the lent list are used
 --   fan_out       the most entries of one put: a craft has at most so many neighbours
---   list-laws     an entry list shows what every link service shows
---   means         the first `len` entries of the list wait; the free ones serve as many puts as `fan-out` goes into them
+--   list_laws     an entry list shows what every link service shows
+--   means         the first `len` entries of the list wait; the free ones serve as many puts as `fan_out` goes into them
 use Rattle.std.specs.Prelude.{◌≡◌, ℕ, ◌-◌, ◌/◌, [], length, take}
 use Rattle.std.proofs.Common.{ap, arith, length-take}
 use Rattle.links.specs.declared.entry_list.EntryList.{EntryList}
@@ -29,5 +29,5 @@ full e h =
     let none : length e.list.now - e.len ≡ length e.list.now = omega (arith, ap length h, length-take e.len e.list.now) in
     ap (λ (i : ℕ). i / fan_out) none
 
-pub list-laws : Laws means
-list-laws = record { full = full; roomy = λ e h. omega arith }
+pub list_laws : Laws means
+list_laws = record { full = full; roomy = λ e h. omega arith }

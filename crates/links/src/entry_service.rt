@@ -1,7 +1,7 @@
 // The entry list as a link service.
 ghost use Rattle.std.specs.Prelude.{◌≡◌, ◌+◌, ◌≤◌, min, [], ◌++◌, length, take};
 ghost use Rattle.links.specs.Meanings.{sent};
-ghost use Rattle.links.specs.EntryLists.{list_length, means, list-laws};
+ghost use Rattle.links.specs.EntryLists.{list_length, means, list_laws};
 
 use crate::entries::Entry;
 use crate::entry_list::EntryList;
@@ -54,7 +54,7 @@ impl EntryList<'_> {
 impl LinkService for EntryList<'_> {
     ghost meaning = { means };
 
-    ghost laws = { list-laws };
+    ghost laws = { list_laws };
 
     fn start(&mut self, chart: &Chart) -> Result<(), Fault> {
         if self.list.len() < EntryList::LENGTH {

@@ -53,8 +53,8 @@ in_order fs = listed (length (all_bytes fs)) 1 fs (omega arith)
 
 -- a loop over a capture of len bytes, i frames on: what is out, and the lines of the rest, are all
 module _ (out : List ℕ) (len i : ℕ) (rest all : List ℕ) (inv : out ++ lines (len - i) (i + 1) rest ≡ all) where
-  from-here : i < len → (ls : List ℕ) → lines (suc (len - (i + 1))) (i + 1) rest ≡ ls → out ++ ls ≡ all
-  from-here h ls e =
+  from_here : i < len → (ls : List ℕ) → lines (suc (len - (i + 1))) (i + 1) rest ≡ ls → out ++ ls ≡ all
+  from_here h ls e =
       let k : len - i ≡ suc (len - (i + 1)) = omega arith in
       ap (λ (l : List ℕ). out ++ l) (sym (ap (λ (j : ℕ). lines j (i + 1) rest) k ∙ e)) ∙ inv
 
@@ -68,7 +68,7 @@ module _ (out : List ℕ) (len i : ℕ) (rest all : List ℕ) (inv : out ++ line
       sym (append-nil out) ∙ ap (λ (l : List ℕ). out ++ l) (sym (ap (λ (j : ℕ). lines j (i + 1) rest) k ∙ lines_none (i + 1) rest)) ∙ inv
 
   pub listed_cut : i < len → 0 < length rest → short rest ≡ true → out ++ line (i + 1) (codes "refused 14") ≡ all
-  listed_cut h some cut = from-here h _ (lines_cut (len - (i + 1)) (i + 1) rest some cut)
+  listed_cut h some cut = from_here h _ (lines_cut (len - (i + 1)) (i + 1) rest some cut)
 
   pub listed_more : i < len → (text after : List ℕ) → 0 < length rest → short rest ≡ false → text ≡ frame_text (take (get_or rest 0 0) rest)
       → after ≡ drop (get_or rest 0 0) rest → (out ++ line (i + 1) text) ++ lines (len - (i + 1)) (i + 1 + 1) after ≡ all
@@ -76,4 +76,4 @@ module _ (out : List ℕ) (len i : ℕ) (rest all : List ℕ) (inv : out ++ line
       append_assoc out (line (i + 1) text) (lines (len - (i + 1)) (i + 1 + 1) after)
       ∙ ap (λ (x : List ℕ). out ++ (line (i + 1) x ++ lines (len - (i + 1)) (i + 1 + 1) after)) t
       ∙ ap (λ (x : List ℕ). out ++ (line (i + 1) (frame_text (take (get_or rest 0 0) rest)) ++ lines (len - (i + 1)) (i + 1 + 1) x)) a
-      ∙ from-here h _ (lines_more (len - (i + 1)) (i + 1) rest some whole-one)
+      ∙ from_here h _ (lines_more (len - (i + 1)) (i + 1) rest some whole-one)

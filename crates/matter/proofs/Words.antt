@@ -1,8 +1,8 @@
 -- A word and its eight bytes. Assumes nothing.
 --   Places, places   each byte of a word by its place
 --   top_byte         the highest byte of a word is what lies above the other seven
---   bytes_of-word-in   the bytes of the number that eight bytes are
---   word-in-bytes    the number that the bytes of a word are
+--   bytes_of_word_in   the bytes of the number that eight bytes are
+--   word_in_bytes    the number that the bytes of a word are
 use Rattle.std.proofs.Common.{◌≡◌, ℕ, ◌+◌, ◌*◌, ◌/◌, ◌%◌, ◌^◌, ◌<◌, ◌≤◌, List, [], ◌∷◌, length, get_or, sym, refl, ap, ◌∙◌, arith}
 use Rattle.std.proofs.lemmas.List.{drop_all}
 use Rattle.matter.specs.Words.{word_bytes, word_in}
@@ -48,8 +48,8 @@ eight a b c d e f g h w la lb lc ld le lf lg lh is =
     let eh : w % 256 ≡ h = omega arith in
     cc
 
-pub bytes_of-word-in : (bs : List ℕ) → length bs ≡ 8 → ((i : ℕ) → get_or bs i 0 < 256) → word_bytes (word_in bs) ≡ bs
-bytes_of-word-in bs l fits =
+pub bytes_of_word_in : (bs : List ℕ) → length bs ≡ 8 → ((i : ℕ) → get_or bs i 0 < 256) → word_bytes (word_in bs) ≡ bs
+bytes_of_word_in bs l fits =
     let s : 8 ≤ length bs = omega arith in
     let m : length bs ≤ 8 = omega arith in
     let e = apart 8 0 bs s in
@@ -58,5 +58,5 @@ bytes_of-word-in bs l fits =
     (fits 0) (fits 1) (fits 2) (fits 3) (fits 4) (fits 5) (fits 6) (fits 7) refl in
     cc
 
-pub word-in-bytes : (w : ℕ) → w < 2 ^ 64 → word_in (word_bytes w) ≡ w
-word-in-bytes w small = omega arith
+pub word_in_bytes : (w : ℕ) → w < 2 ^ 64 → word_in (word_bytes w) ≡ w
+word_in_bytes w small = omega arith

@@ -1,7 +1,7 @@
 -- The laws of observations and keep-outs, over their values. Assumes nothing.
---   observation-whole, keep_out_whole   a number of one byte, seven bytes of fields
---   observation-fit, keep_out_fit       a value's fields are in range
---   observation-apart, keep_out_apart   a value is its fields
+--   observation_whole, keep_out_whole   a number of one byte, seven bytes of fields
+--   observation_fit, keep_out_fit       a value's fields are in range
+--   observation_apart, keep_out_apart   a value is its fields
 use Rattle.std.specs.Prelude.{◌≡◌, ◌≤◌, refl}
 use mathlib.Core.HLevel.{is_prop→PathP}
 use Rattle.std.proofs.Common.{arith, lit<}
@@ -11,16 +11,16 @@ use Rattle.matter.specs.declared.kinds.KeepOut.{KeepOut}
 use Rattle.matter.specs.Kinds.{observation, observed, keep_out, kept_out}
 use Rattle.matter.specs.LayoutsLemmas.{Fit, Whole}
 
-pub observation-whole : Whole observation
-observation-whole = record { number = lit< tt; seven = refl }
+pub observation_whole : Whole observation
+observation_whole = record { number = lit< tt; seven = refl }
 
-pub observation-fit : (m : Observation) → Fit observation.layout (observed m)
-observation-fit m =
+pub observation_fit : (m : Observation) → Fit observation.layout (observed m)
+observation_fit m =
     (m.named.0, m.named.1, lit< tt, (omega arith, m.today, lit< tt, (m.lasts.0, m.lasts.1, lit< tt, (omega arith, m.known, lit< tt, tt))))
 
 -- a range has one proof
-pub observation-apart : (m n : Observation) → observed m ≡ observed n → m ≡ n
-observation-apart m n e =
+pub observation_apart : (m n : Observation) → observed m ≡ observed n → m ≡ n
+observation_apart m n e =
     let p : m.target ≡ n.target = cc in
     let q : m.start ≡ n.start = cc in
     let r : m.length ≡ n.length = cc in

@@ -3,7 +3,7 @@
 --   observation   kind 1: target, start second, length in seconds, camera mode
 --   observed      the values of an observation
 --   keep_out      kind 2: zone, first second, length in minutes
---   kept_out      the values of a keep_out
+--   kept_out      the values of a keep-out
 use Rattle.std.specs.Prelude.{ℕ, List, [], ◌∷◌}
 use Rattle.matter.specs.declared.kinds.Observation.{Observation}
 use Rattle.matter.specs.declared.kinds.KeepOut.{KeepOut}

@@ -4,11 +4,11 @@
 --   unpacked-packed   what was packed is unpacked, whatever stands above it
 --   packed-unpacked   what is unpacked packs to the number's low bytes
 --   Whole             a kind's number has one byte, and its fields seven
---   own-word-reads    the word of a kind's values is read as those values
---   read-word-again   a word that is read is the word of what was read
+--   own_word_reads    the word of a kind's values is read as those values
+--   read_word_again   a word that is read is the word of what was read
 --   word_eight        a word has eight bytes
---   made-read         values made into a matter, where they stand in a word of its kind, are that word read
---   other-kind        a word of no kind is refused at its highest byte
+--   made_read         values made into a matter, where they stand in a word of its kind, are that word read
+--   other_kind        a word of no kind is refused at its highest byte
 use Rattle.std.specs.Prelude.{◌≡◌, ℕ, ◌+◌, ◌*◌, ◌/◌, ◌%◌, ◌^◌, ◌<◌, ◌≤◌, Bool, true, false, cond, not, List, [], ◌∷◌, Some, None, Ok, Err, Option, Result, ◌==◌, refl}
 use Rattle.std.proofs.Common.{sym, ap, subst, ◌∙◌, ⊎_elim, mul_assoc, add-mul, div-add-mod', arith, lit<, pow-add}
 use Rattle.std.proofs.Math.Nat.{mod-one, pow-le-pow_right}
@@ -79,20 +79,20 @@ fields_pass at (f ∷ fs) (v ∷ vs) h =
     ∙ fields_pass (at + f.bytes) fs vs h.3
 
 -- a word's highest byte and the rest
-word-top : (k : Kind) (vs : List ℕ) → Whole k → Fit k.layout vs → top (word_of k vs) ≡ k.number
-word-top k vs whole h =
+word_top : (k : Kind) (vs : List ℕ) → Whole k → Fit k.layout vs → top (word_of k vs) ≡ k.number
+word_top k vs whole h =
     let P : ℕ → Type 0 = λ n. packed k.layout vs < 256 ^ n in
     digits_div k.number (subst P whole.seven (packed_lt k.layout vs h))
 
-word-values : (k : Kind) (vs : List ℕ) → Whole k → Fit k.layout vs → unpacked k.layout (word_of k vs) ≡ vs
-word-values k vs whole h =
+word_values : (k : Kind) (vs : List ℕ) → Whole k → Fit k.layout vs → unpacked k.layout (word_of k vs) ≡ vs
+word_values k vs whole h =
     ap (λ (n : ℕ). unpacked k.layout (k.number * 256 ^ n + packed k.layout vs)) (sym whole.seven)
     ∙ unpacked-packed k.layout vs k.number h
 
-pub own-word-reads : (ks : List Kind) (k : Kind) (vs : List ℕ) → numbered ks k.number ≡ Some k → Whole k → Fit k.layout vs → Reads ks (word_of k vs) k vs
-own-word-reads ks k vs found whole h =
-    let kind = ap (λ (n : ℕ). numbered ks n) (word-top k vs whole h) ∙ found in
-    let values = word-values k vs whole h in
+pub own_word_reads : (ks : List Kind) (k : Kind) (vs : List ℕ) → numbered ks k.number ≡ Some k → Whole k → Fit k.layout vs → Reads ks (word_of k vs) k vs
+own_word_reads ks k vs found whole h =
+    let kind = ap (λ (n : ℕ). numbered ks n) (word_top k vs whole h) ∙ found in
+    let values = word_values k vs whole h in
     record {
       accepted =
           ap (λ (o : Option Kind). refusal (word_causes o (word_of k vs))) kind
@@ -111,8 +111,8 @@ numbered_is (j ∷ ks) n k e =
     (λ f. numbered_is ks n k (sym (cond-false _ (Some j) (numbered ks n) f) ∙ e))
     (cases_Bool (n == j.number))
 
-pub read-word-again : (ks : List Kind) (w : ℕ) (k : Kind) (vs : List ℕ) → Whole k → Reads ks w k vs → word_of k vs ≡ w
-read-word-again ks w k vs whole h =
+pub read_word_again : (ks : List Kind) (w : ℕ) (k : Kind) (vs : List ℕ) → Whole k → Reads ks w k vs → word_of k vs ≡ w
+read_word_again ks w k vs whole h =
     let size : ℕ = 256 ^ 7 in
     ap (λ (n : ℕ). n * size + packed k.layout vs) (sym (numbered_is ks (top w) k h.kind))
     ∙ ap (λ (us : List ℕ). w / size * size + packed k.layout us) (sym h.values)
@@ -125,9 +125,9 @@ word_eight k vs whole h =
     let P : ℕ → Type 0 = λ n. packed k.layout vs < 256 ^ n in
     digits_lt {c = 256 ^ 7} whole.number (subst P whole.seven (packed_lt k.layout vs h))
 
-pub made-read : {M : Type 0} (ks : List Kind) (k : Kind) (kind : M → Kind) (fields : M → List ℕ) (w : ℕ) (vs : List ℕ) (r : Result M Fault)
+pub made_read : {M : Type 0} (ks : List Kind) (k : Kind) (kind : M → Kind) (fields : M → List ℕ) (w : ℕ) (vs : List ℕ) (r : Result M Fault)
     → ((m : M) → kind m ≡ k) → numbered ks (top w) ≡ Some k → unpacked k.layout w ≡ vs → Made k fields vs r → ReadAs ks kind fields w r
-made-read ks k kind fields w vs (Ok m) same found values h =
+made_read ks k kind fields w vs (Ok m) same found values h =
     record {
       accepted =
           ap (λ (o : Option Kind). refusal (word_causes o w)) found
@@ -136,10 +136,10 @@ made-read ks k kind fields w vs (Ok m) same found values h =
       kind = found ∙ ap (λ (x : Kind). Some x) (sym (same m));
       values = ap (λ (x : Kind). unpacked x.layout w) (same m) ∙ values ∙ sym h.1;
     }
-made-read ks k kind fields w vs (Err e) same found values h =
+made_read ks k kind fields w vs (Err e) same found values h =
     ap (λ (o : Option Kind). refusal (word_causes o w)) found
     ∙ ap (λ (us : List ℕ). refusal (field_causes 1 k.layout us)) values
     ∙ h
 
-pub other-kind : (ks : List Kind) (w : ℕ) → numbered ks (top w) ≡ None → word_refusal ks w ≡ Some (out_of_range 0 true).tells
-other-kind ks w none = ap (λ (o : Option Kind). refusal (word_causes o w)) none
+pub other_kind : (ks : List Kind) (w : ℕ) → numbered ks (top w) ≡ None → word_refusal ks w ≡ Some (out_of_range 0 true).tells
+other_kind ks w none = ap (λ (o : Option Kind). refusal (word_causes o w)) none

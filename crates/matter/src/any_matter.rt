@@ -4,8 +4,8 @@ ghost use Rattle.std.specs.Prelude.{refl};
 ghost use Rattle.std.proofs.Common.{ap, arith};
 ghost use Rattle.matter.specs.declared.any_matter.AnyMatter.TheVariants.{Observation, KeepOut};
 ghost use Rattle.matter.specs.Kinds.{observation, observed, keep_out, kept_out};
-ghost use Rattle.matter.specs.KindLaws.{observation-whole, observation-fit, keep_out_whole, keep_out_fit, observation-apart, keep_out_apart};
-ghost use Rattle.matter.specs.LayoutsLemmas.{own-word-reads, read-word-again, word_eight};
+ghost use Rattle.matter.specs.KindLaws.{observation_whole, observation_fit, keep_out_whole, keep_out_fit, observation_apart, keep_out_apart};
+ghost use Rattle.matter.specs.LayoutsLemmas.{own_word_reads, read_word_again, word_eight};
 ghost use Rattle.matter.specs.Layouts.{Kind};
 
 use crate::kinds::{KeepOut, Observation};
@@ -26,15 +26,15 @@ impl Matter for AnyMatter {
     ghost fields = { any_fields };
 
     ghost reads = { elim [
-      | Observation m ↦ own-word-reads all_kinds observation (observed m) refl observation-whole (observation-fit m)
-      | KeepOut m ↦ own-word-reads all_kinds keep_out (kept_out m) refl keep_out_whole (keep_out_fit m)
+      | Observation m ↦ own_word_reads all_kinds observation (observed m) refl observation_whole (observation_fit m)
+      | KeepOut m ↦ own_word_reads all_kinds keep_out (kept_out m) refl keep_out_whole (keep_out_fit m)
     ] };
 
     // two matters of other kinds have other numbers
     ghost apart = { elim [
       | Observation m ↦
           elim [
-            | Observation n ↦ λ k e. ap Observation (observation-apart m n e)
+            | Observation n ↦ λ k e. ap Observation (observation_apart m n e)
             | KeepOut n ↦ λ k e. let z = ap (λ (x : Kind). x.number) k in absurd (omega arith)
           ]
       | KeepOut m ↦
@@ -46,12 +46,12 @@ impl Matter for AnyMatter {
 
     ghost again = { λ w.
         elim [
-          | Observation m ↦ λ h. read-word-again all_kinds w observation (observed m) observation-whole h
-          | KeepOut m ↦ λ h. read-word-again all_kinds w keep_out (kept_out m) keep_out_whole h
+          | Observation m ↦ λ h. read_word_again all_kinds w observation (observed m) observation_whole h
+          | KeepOut m ↦ λ h. read_word_again all_kinds w keep_out (kept_out m) keep_out_whole h
         ] };
 
     ghost eight = { elim [
-      | Observation m ↦ word_eight observation (observed m) observation-whole (observation-fit m)
+      | Observation m ↦ word_eight observation (observed m) observation_whole (observation_fit m)
       | KeepOut m ↦ word_eight keep_out (kept_out m) keep_out_whole (keep_out_fit m)
     ] };
 

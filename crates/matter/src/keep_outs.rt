@@ -3,19 +3,19 @@ ghost use Rattle.std.specs.Prelude.{[], ◌∷◌, refl};
 ghost use Rattle.matter.specs.Layouts.{Made};
 ghost use Rattle.matter.specs.Kinds.{keep_out, kept_out};
 ghost use Rattle.matter.specs.KindLaws.{keep_out_whole, keep_out_fit, keep_out_apart};
-ghost use Rattle.matter.specs.LayoutsLemmas.{own-word-reads, read-word-again, word_eight};
+ghost use Rattle.matter.specs.LayoutsLemmas.{own_word_reads, read_word_again, word_eight};
 
 use crate::kinds::{KeepOut, LAST_SECOND};
 use crate::matters::Matter;
 use refusals::{Fault, Layer, Refusal};
 
-// the longest keep_out: a day, in minutes
+// the longest keep-out: a day, in minutes
 const MOST_MINUTES: u16 = 1440;
 
 impl KeepOut {
     pub const KIND: u8 = 2;
 
-    // The keep_out with these fields, or 11 with the first byte of the first field out of range.
+    // The keep-out with these fields, or 11 with the first byte of the first field out of range.
     pub fn new(zone: u16, first: u32, minutes: u16) -> Result<KeepOut, Fault>
         ensures { Made keep_out kept_out (zone ∷ first ∷ minutes ∷ []) result }
     {
@@ -43,11 +43,11 @@ impl Matter for KeepOut {
 
     ghost fields = { kept_out };
 
-    ghost reads = { λ m. own-word-reads (keep_out ∷ []) keep_out (kept_out m) refl keep_out_whole (keep_out_fit m) };
+    ghost reads = { λ m. own_word_reads (keep_out ∷ []) keep_out (kept_out m) refl keep_out_whole (keep_out_fit m) };
 
     ghost apart = { λ m n k e. keep_out_apart m n e };
 
-    ghost again = { λ w m h. read-word-again (keep_out ∷ []) w keep_out (kept_out m) keep_out_whole h };
+    ghost again = { λ w m h. read_word_again (keep_out ∷ []) w keep_out (kept_out m) keep_out_whole h };
 
     ghost eight = { λ m. word_eight keep_out (kept_out m) keep_out_whole (keep_out_fit m) };
 

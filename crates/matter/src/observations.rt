@@ -2,8 +2,8 @@
 ghost use Rattle.std.specs.Prelude.{[], ◌∷◌, refl};
 ghost use Rattle.matter.specs.Layouts.{Made};
 ghost use Rattle.matter.specs.Kinds.{observation, observed};
-ghost use Rattle.matter.specs.KindLaws.{observation-whole, observation-fit, observation-apart};
-ghost use Rattle.matter.specs.LayoutsLemmas.{own-word-reads, read-word-again, word_eight};
+ghost use Rattle.matter.specs.KindLaws.{observation_whole, observation_fit, observation_apart};
+ghost use Rattle.matter.specs.LayoutsLemmas.{own_word_reads, read_word_again, word_eight};
 
 use crate::kinds::{LAST_SECOND, Observation};
 use crate::matters::Matter;
@@ -47,13 +47,13 @@ impl Matter for Observation {
 
     ghost fields = { observed };
 
-    ghost reads = { λ m. own-word-reads (observation ∷ []) observation (observed m) refl observation-whole (observation-fit m) };
+    ghost reads = { λ m. own_word_reads (observation ∷ []) observation (observed m) refl observation_whole (observation_fit m) };
 
-    ghost apart = { λ m n k e. observation-apart m n e };
+    ghost apart = { λ m n k e. observation_apart m n e };
 
-    ghost again = { λ w m h. read-word-again (observation ∷ []) w observation (observed m) observation-whole h };
+    ghost again = { λ w m h. read_word_again (observation ∷ []) w observation (observed m) observation_whole h };
 
-    ghost eight = { λ m. word_eight observation (observed m) observation-whole (observation-fit m) };
+    ghost eight = { λ m. word_eight observation (observed m) observation_whole (observation_fit m) };
 
     fn word(&self) -> u64 {
         let [t1, t0] = self.target.to_be_bytes();

@@ -2,10 +2,10 @@
 --   stepped_unfit, stepped-covered, stepped-full   when a frame is dropped
 --   stepped-room    with room for its path, a frame that enters is taken
 --   stepped-step    with a free row, what is left is the step's
---   room-empty      there is room for the empty set where a path of the same key is held
+--   room_empty      there is room for the empty set where a path of the same key is held
 --   stepped-one     a step takes at most one row more
 --   rows_long       a shelf has as many rows as it says
---   stepped-free    with a free row on every shelf, what is left is the step's
+--   stepped_free    with a free row on every shelf, what is left is the step's
 --   told-linked     whoever is told is a neighbour, and the craft that tells is a craft
 --   takes_at        a step on one shelf of all
 --   heard-fits      a craft hears only what fits
@@ -23,7 +23,7 @@ use Rattle.shelves.specs.declared.kinds.Shelf.{Shelf}
 use Rattle.shelves.specs.Lengths.{shelf_length}
 use Rattle.shelves.specs.Rows.{row_of, covered, stays, holding}
 use Rattle.shelves.specs.Shelves.{rows_of, rows_at, empty_shelf, room, fewest}
-use Rattle.shelves.proofs.Kept.{kept-le}
+use Rattle.shelves.proofs.Kept.{kept_le}
 use Rattle.shelves.proofs.FreeRows.{fewest-set}
 use Rattle.shelves.proofs.Hearing.{has_room}
 use Rattle.pathsets.specs.declared.listener.Listener.{Listener}
@@ -32,16 +32,16 @@ use Rattle.pathsets.specs.Keys.{sets_of}
 use Rattle.pathsets.specs.Steps.{fits, Fits, path, enters, hears, Stepped, dropped, settled, step}
 use Rattle.pathsets.specs.Shelving.{full_for, stepped, Takes, TakesAt}
 use Rattle.pathsets.proofs.Families.{inside-zero}
-use Rattle.pathsets.proofs.RowSets.{keyed-own}
-use Rattle.pathsets.proofs.StepLaws.{fits-tells, tells-in}
+use Rattle.pathsets.proofs.RowSets.{keyed_own}
+use Rattle.pathsets.proofs.StepLaws.{fits-tells, tells_in}
 
 -- ---- the empty set takes the place of a path
 
 goes : (a : ℕ) (x : Note) (u : ℕ) → stays a x 0 (row_of a x u) ≡ false
-goes a x u = not_from_true _ (and_from _ _ (keyed-own a x u) (inside-zero u))
+goes a x u = not_from_true _ (and_from _ _ (keyed_own a x u) (inside-zero u))
 
-kept-holding : (a : ℕ) (x : Note) (u : ℕ) (rs : List Row) → length (filter (stays a x 0) (holding rs a x u)) + 1 ≤ length (holding rs a x u)
-kept-holding a x u rs =
+kept_holding : (a : ℕ) (x : Note) (u : ℕ) (rs : List Row) → length (filter (stays a x 0) (holding rs a x u)) + 1 ≤ length (holding rs a x u)
+kept_holding a x u rs =
     let old = filter (stays a x u) rs in
     let gone : filter (stays a x 0) (row_of a x u ∷ []) ≡ [] = cond-false (stays a x 0 (row_of a x u)) (row_of a x u ∷ []) [] (goes a x u) in
     omega (
@@ -50,18 +50,18 @@ kept-holding a x u rs =
       length-append (filter (stays a x 0) old) (filter (stays a x 0) (row_of a x u ∷ [])),
       length-append old (row_of a x u ∷ []),
       ap length gone,
-      kept-le (stays a x 0) old,
+      kept_le (stays a x 0) old,
     )
 
-pub room-empty : (a : ℕ) (x : Note) (u : ℕ) (rs : List Row) → length (holding rs a x u) ≤ shelf_length → room (holding rs a x u) a x 0 ≡ true
-room-empty a x u rs h = lt-ltb _ shelf_length (omega (arith, kept-holding a x u rs))
+pub room_empty : (a : ℕ) (x : Note) (u : ℕ) (rs : List Row) → length (holding rs a x u) ≤ shelf_length → room (holding rs a x u) a x 0 ≡ true
+room_empty a x u rs h = lt-ltb _ shelf_length (omega (arith, kept_holding a x u rs))
 
 holding-one : (a : ℕ) (x : Note) (u : ℕ) (rs : List Row) → length (holding rs a x u) ≤ length rs + 1
-holding-one a x u rs = omega (arith, length-append (filter (stays a x u) rs) (row_of a x u ∷ []), kept-le (stays a x u) rs)
+holding-one a x u rs = omega (arith, length-append (filter (stays a x u) rs) (row_of a x u ∷ []), kept_le (stays a x u) rs)
 
 holding_twice : (a : ℕ) (x : Note) (u : ℕ) (rs : List Row) → length (holding (holding rs a x u) a x 0) ≤ length rs + 1
 holding_twice a x u rs =
-    omega (arith, kept-holding a x u rs, holding-one a x u rs, length-append (filter (stays a x 0) (holding rs a x u)) (row_of a x 0 ∷ []))
+    omega (arith, kept_holding a x u rs, holding-one a x u rs, length-append (filter (stays a x 0) (holding rs a x u)) (row_of a x 0 ∷ []))
 
 settled-one : (links a : ℕ) (x : Note) (u : ℕ) (rs : List Row) (h : Bool) → length (settled links a x u (holding rs a x u) h).rows ≤ length rs + 1
 settled-one links a x u rs true = holding_twice a x u rs
@@ -150,9 +150,9 @@ takes_past ss l q m past =
 
 -- ---- with room on every shelf
 
-pub stepped-free : (ss : List Shelf) (l : Listener) (q : ℕ) (m : Frame) → 0 < fewest ss
+pub stepped_free : (ss : List Shelf) (l : Listener) (q : ℕ) (m : Frame) → 0 < fewest ss
     → stepped l q m (rows_at ss l.craft) ≡ step l q m (rows_at ss l.craft)
-stepped-free ss l q m free =
+stepped_free ss l q m free =
     let rs = rows_at ss l.craft in
     ⊎_elim
     (λ (small : l.craft < labels). stepped-step l q m rs (lt-ltb _ shelf_length (has_room ss l.craft m.author m.note (path q m.author m.set) small free)))
@@ -164,8 +164,8 @@ stepped-free ss l q m free =
 -- ---- whom a step tells
 
 settled-linked : (links a : ℕ) (x : Note) (u : ℕ) (rs : List Row) (h : Bool) (i : ℕ) → In i (settled links a x u rs h).out.to → In i links
-settled-linked links a x u rs true i t = (tells-in links a 0 (sets_of a x rs) i t).0
-settled-linked links a x u rs false i t = (tells-in links a u (sets_of a x rs) i t).0
+settled-linked links a x u rs true i t = (tells_in links a 0 (sets_of a x rs) i t).0
+settled-linked links a x u rs false i t = (tells_in links a u (sets_of a x rs) i t).0
 
 pub told-linked : (l : Listener) (q : ℕ) (m : Frame) (rs : List Row) (i : ℕ) → In i (step l q m rs).out.to → (l.craft < l.n) × In i l.neighbours
 told-linked l q m rs i t = ⊎_elim

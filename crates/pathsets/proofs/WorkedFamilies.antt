@@ -14,17 +14,17 @@ use Rattle.pathsets.specs.Hitting.{tried, hittable, Hittable}
 use Rattle.pathsets.specs.Keys.{sets_of}
 use Rattle.pathsets.specs.Steps.{hears}
 use Rattle.pathsets.specs.Examples.{WorkedFamilies}
-use Rattle.pathsets.proofs.HittingLaws.{hittable-decides, none_hit}
+use Rattle.pathsets.proofs.HittingLaws.{hittable_decides, none_hit}
 
 quiet : (f : ℕ) (ss : List ℕ) → hears f ss ≡ false → Hittable f ss
-quiet f ss h = (hittable-decides f ss).0 (not-false _ h)
+quiet f ss h = (hittable_decides f ss).0 (not-false _ h)
 
 heard : (f : ℕ) (ss : List ℕ) → hears f ss ≡ true → Hittable f ss → ⊥
-heard f ss h = not_from_Decides (hittable f ss) (hittable-decides f ss) (not-true _ h)
+heard f ss h = not_from_Decides (hittable f ss) (hittable_decides f ss) (not-true _ h)
 
 always : (s : ℕ) (ss : List ℕ) → hears 0 (s ∷ ss) ≡ true
 always s ss = ⊎_elim
-    (λ (h : hittable 0 (s ∷ ss) ≡ true). absurd (none_hit s ss ((hittable-decides 0 (s ∷ ss)).0 h)))
+    (λ (h : hittable 0 (s ∷ ss) ≡ true). absurd (none_hit s ss ((hittable_decides 0 (s ∷ ss)).0 h)))
     (λ h. not_from_false _ h) (cases_Bool (hittable 0 (s ∷ ss)))
 
 pub worked_families_lem : WorkedFamilies

@@ -3,7 +3,7 @@
 --   entries_push   one put more
 --   entries_more   how many entries that is
 --   same_length    a set is made into lists of one length, whatever is made
---   inside-put     an entry that stands behind those of i puts, and before those of the put after them, is of that put
+--   inside_put     an entry that stands behind those of i puts, and before those of the put after them, is of that put
 use Rattle.std.proofs.Common.{◌≡◌, ℕ, ◌+◌, ◌^◌, ◌<◌, List, [], ◌++◌, length, get_or, take, sym, ap, ◌∙◌, arith}
 use Rattle.std.proofs.lemmas.List.{length-append, take_more, flat_map_more}
 use Rattle.sets.specs.Sets.{labels, count, each}
@@ -30,7 +30,7 @@ entries_more ps i d l fits =
 pub same_length : {X Y : Type 0} (f : ℕ → X) (g : ℕ → Y) (s n : ℕ) → length (each f s n) ≡ length (each g s n)
 same_length f g s n = length-each f s n ∙ sym (length-each g s n)
 
-pub inside-put : (ps : List LoggedPut) (i j k : ℕ) → i < length ps → length (all_entries (take i ps)) + j ≡ k → k < length (all_entries (take (i + 1) ps))
+pub inside_put : (ps : List LoggedPut) (i j k : ℕ) → i < length ps → length (all_entries (take i ps)) + j ≡ k → k < length (all_entries (take (i + 1) ps))
     → j < length (entries_of (get_or ps i blank))
-inside-put ps i j k l before after =
+inside_put ps i j k l before after =
     omega (arith, ap length (entries_push ps i blank l), length-append (all_entries (take i ps)) (entries_of (get_or ps i blank)))

@@ -33,24 +33,24 @@ told_is Cut = refl
 told_is (Version v) = refl
 told_is Unknown = refl
 
-pub told-apart : ToldApart
-told-apart x y n v =
+pub told_apart : ToldApart
+told_apart x y n v =
     sym (told_is x) ∙ ap (λ (k : ℕ). refusal_of k (values_of x)) n ∙ ap (λ (vs : List ℕ). refusal_of (number_of y) vs) v ∙ told_is y
 
-pub numbers-to : NumbersTo 16
-numbers-to (Label a) = (lit≤ tt, lit≤ tt)
-numbers-to (Size n) = (lit≤ tt, lit≤ tt)
-numbers-to (Row a) = (lit≤ tt, lit≤ tt)
-numbers-to (Thin u v s) = (lit≤ tt, lit≤ tt)
-numbers-to (Number k) = (lit≤ tt, lit≤ tt)
-numbers-to (Ordered k) = (lit≤ tt, lit≤ tt)
-numbers-to (Index w) = (lit≤ tt, lit≤ tt)
-numbers-to (Spare s) = (lit≤ tt, lit≤ tt)
-numbers-to (NoLink a) = (lit≤ tt, lit≤ tt)
-numbers-to (Astray a) = (lit≤ tt, lit≤ tt)
-numbers-to (Range b) = (lit≤ tt, lit≤ tt)
-numbers-to (NoSlip k) = (lit≤ tt, lit≤ tt)
-numbers-to (Short l) = (lit≤ tt, lit≤ tt)
-numbers-to Cut = (lit≤ tt, lit≤ tt)
-numbers-to (Version v) = (lit≤ tt, lit≤ tt)
-numbers-to Unknown = (lit≤ tt, lit≤ tt)
+pub numbers_to : NumbersTo 16
+numbers_to (Label a) = (lit≤ tt, lit≤ tt)
+numbers_to (Size n) = (lit≤ tt, lit≤ tt)
+numbers_to (Row a) = (lit≤ tt, lit≤ tt)
+numbers_to (Thin u v s) = (lit≤ tt, lit≤ tt)
+numbers_to (Number k) = (lit≤ tt, lit≤ tt)
+numbers_to (Ordered k) = (lit≤ tt, lit≤ tt)
+numbers_to (Index w) = (lit≤ tt, lit≤ tt)
+numbers_to (Spare s) = (lit≤ tt, lit≤ tt)
+numbers_to (NoLink a) = (lit≤ tt, lit≤ tt)
+numbers_to (Astray a) = (lit≤ tt, lit≤ tt)
+numbers_to (Range b) = (lit≤ tt, lit≤ tt)
+numbers_to (NoSlip k) = (lit≤ tt, lit≤ tt)
+numbers_to (Short l) = (lit≤ tt, lit≤ tt)
+numbers_to Cut = (lit≤ tt, lit≤ tt)
+numbers_to (Version v) = (lit≤ tt, lit≤ tt)
+numbers_to Unknown = (lit≤ tt, lit≤ tt)

@@ -3,15 +3,15 @@
 --   carries       together they are the carry that the theory speaks of
 --   carried_on    and all that is said of an accepted carry
 --   stopped       where the put is refused
---   put-taken     where the link service has the relay's chart, the put is not refused
+--   put_taken     where the link service has the relay's chart, the put is not refused
 --   told_is       what is told by the entry taken is what was defined for its index
 use Rattle.std.proofs.Common.{◌≡◌, ℕ, ◌+◌, ◌<◌, ◌≤◌, Bool, true, false, cond, List, ◌++◌, length, get_or, Some, None, Ok, Err, Option, sym, refl, ap, ◌∙◌, subst, ⊎_elim, arith}
 use Rattle.std.specs.List.{remove}
 use Rattle.std.proofs.lemmas.List.{append-nil, get_or_default}
 use Rattle.std.proofs.lemmas.Bool.{cases_eq}
 use Rattle.sets.specs.Sets.{labels, In}
-use Rattle.sets.proofs.Members.{bit_lacks, not_in, some-member, within_by, within-inside}
-use Rattle.sets.proofs.Removed.{each-empty}
+use Rattle.sets.proofs.Members.{bit_lacks, not_in, some_member, within_by, within_inside}
+use Rattle.sets.proofs.Removed.{each_empty}
 use Rattle.refusals.specs.declared.Fault.{Fault}
 use Rattle.refusals.specs.Refusals.{refusal}
 use Rattle.cuts.specs.declared.passed.PassedChart.{PassedChart}
@@ -25,11 +25,11 @@ use Rattle.pathsets.specs.declared.listener.Listener.{Listener}
 use Rattle.pathsets.specs.declared.outcome.Outcome.{Outcome}
 use Rattle.pathsets.specs.Steps.{Stepped, step}
 use Rattle.pathsets.specs.Shelving.{stepped, TakesAt}
-use Rattle.pathsets.proofs.ShelfSteps.{stepped-free, told-linked}
+use Rattle.pathsets.proofs.ShelfSteps.{stepped_free, told-linked}
 use Rattle.relaying.specs.States.{Carries, stepped_at, listener, frame_of}
 use Rattle.carriers.specs.declared.heard.Heard.{Heard}
 use Rattle.bases.specs.Parts.{no_entry, Parts, spare_of}
-use Rattle.bases.proofs.Puts.{puts, less-spare, taken-below}
+use Rattle.bases.proofs.Puts.{puts, less_spare, taken-below}
 use Rattle.relay.specs.Passing.{PassesOn, passed_frame}
 use Rattle.relay.specs.Relays.{setting, state, telling, heard_by, CarriedOn, Stopped}
 
@@ -47,14 +47,14 @@ module _ (c : PassedChart) (p : Parts) (k : ℕ) (e : Entry) (w : links.Meaning)
     same_step : step stand e.from e.frame (rows_at p.shelves e.to) ≡ left
     same_step = ap (λ (r : ℕ). step (record { n = c.chart.n; f = c.f; craft = e.to; neighbours = r; few = few }) e.from e.frame (rows_at p.shelves e.to)) is
 
-    stepped-is : stepped stand e.from e.frame (rows_at p.shelves e.to) ≡ left
-    stepped-is = stepped-free p.shelves stand e.from e.frame free ∙ same_step
+    stepped_is : stepped stand e.from e.frame (rows_at p.shelves e.to) ≡ left
+    stepped_is = stepped_free p.shelves stand e.from e.frame free ∙ same_step
 
-    pub out-is : o ≡ left.out
-    out-is = takes.here.0 ∙ ap (λ (s : Stepped). s.out) stepped-is
+    pub out_is : o ≡ left.out
+    out_is = takes.here.0 ∙ ap (λ (s : Stepped). s.out) stepped_is
 
     pub rows_are : rows_at at e.to ≡ left.rows
-    rows_are = takes.here.1 ∙ ap (λ (s : Stepped). s.rows) stepped-is
+    rows_are = takes.here.1 ∙ ap (λ (s : Stepped). s.rows) stepped_is
 
     there : k < length p.links.waiting
     there = taken-below p.links k take.accepted
@@ -63,9 +63,9 @@ module _ (c : PassedChart) (p : Parts) (k : ℕ) (e : Entry) (w : links.Meaning)
       abbrev after : Parts
       after = record { links = w'; shelves = at; astray = p.astray }
 
-      carries-with : w'.waiting ≡ remove p.links.waiting k ++ sent e.to left.out.to (frame_of e.frame.author e.frame.note left.out.set)
+      carries_with : w'.waiting ≡ remove p.links.waiting k ++ sent e.to left.out.to (frame_of e.frame.author e.frame.note left.out.set)
           → Carries (setting c) (state p) k e (state after)
-      carries-with waits = record {
+      carries_with waits = record {
         there = there;
         taken = λ d. get_or_default p.links.waiting k d e there ∙ take.entry;
         own = rows_are;
@@ -80,17 +80,17 @@ module _ (c : PassedChart) (p : Parts) (k : ℕ) (e : Entry) (w : links.Meaning)
       waits u on = ⊎_elim
           (λ (z : o.to ≡ 0).
           ap (λ (v : links.Meaning). v.waiting) (on.0 z) ∙ take.waiting ∙ sym (append-nil (remove p.links.waiting k))
-          ∙ ap (λ (l : List Entry). remove p.links.waiting k ++ l) (sym (each-empty (entry_to e.to (passed_frame e o)) labels))
+          ∙ ap (λ (l : List Entry). remove p.links.waiting k ++ l) (sym (each_empty (entry_to e.to (passed_frame e o)) labels))
           ∙ ap (λ (s : ℕ). remove p.links.waiting k ++ sent e.to s (passed_frame e o)) (sym z) ∙ as_left)
           (λ ne. (on.1 ne).waiting ∙ ap (λ (l : List Entry). l ++ sent e.to o.to (passed_frame e o)) take.waiting ∙ as_left)
           (cases_eq o.to 0)
         where
           as_left : remove p.links.waiting k ++ sent e.to o.to (passed_frame e o)
               ≡ remove p.links.waiting k ++ sent e.to left.out.to (frame_of e.frame.author e.frame.note left.out.set)
-          as_left = ap (λ (r : Outcome). remove p.links.waiting k ++ sent e.to r.to (passed_frame e r)) out-is
+          as_left = ap (λ (r : Outcome). remove p.links.waiting k ++ sent e.to r.to (passed_frame e r)) out_is
 
-      links-kept : (u : Unit {0}) → PassesOn w e o (Ok u) w' → Kept p.links w'
-      links-kept u on = ⊎_elim
+      links_kept : (u : Unit {0}) → PassesOn w e o (Ok u) w' → Kept p.links w'
+      links_kept u on = ⊎_elim
           (λ (z : o.to ≡ 0). subst (Kept p.links) (sym (on.0 z)) take.kept)
           (λ ne. let q = (on.1 ne).kept in record {
             rows = q.rows ∙ take.kept.rows;
@@ -100,18 +100,18 @@ module _ (c : PassedChart) (p : Parts) (k : ℕ) (e : Entry) (w : links.Meaning)
           })
           (cases_eq o.to 0)
 
-      links-spare : (u : Unit {0}) → PassesOn w e o (Ok u) w' → p.links.spare ≤ w'.spare + 1
-      links-spare u on = ⊎_elim
+      links_spare : (u : Unit {0}) → PassesOn w e o (Ok u) w' → p.links.spare ≤ w'.spare + 1
+      links_spare u on = ⊎_elim
           (λ (z : o.to ≡ 0). omega (arith, take.spare, ap (λ (v : links.Meaning). v.spare) (on.0 z)))
           (λ ne. omega (arith, take.spare, (on.1 ne).spare))
           (cases_eq o.to 0)
 
       pub carried_on : (u : Unit {0}) → PassesOn w e o (Ok u) w' → (t : Option Heard) → t ≡ telling c p e → CarriedOn c p k e t after
       carried_on u on t answer = record {
-        carries = carries-with (waits u on);
+        carries = carries_with (waits u on);
         answer = answer;
-        kept = links-kept u on;
-        spare = less-spare _ _ _ _ (links-spare u on) takes.free;
+        kept = links_kept u on;
+        spare = less_spare _ _ _ _ (links_spare u on) takes.free;
       }
 
       pub stopped : (x : Fault) → PassesOn w e o (Err x) w' → Stopped c p k x after
@@ -122,19 +122,19 @@ module _ (c : PassedChart) (p : Parts) (k : ℕ) (e : Entry) (w : links.Meaning)
         other = takes.others;
         astray = refl;
         refused = ap (λ (v : links.Meaning). refusal (put_causes v.rows v.spare e.to left.out.to)) same
-            ∙ ap (λ (r : Outcome). refusal (put_causes w.rows w.spare e.to r.to)) (sym out-is) ∙ why;
+            ∙ ap (λ (r : Outcome). refusal (put_causes w.rows w.spare e.to r.to)) (sym out_is) ∙ why;
       }
 
     -- ---- the put is taken
 
-    pub put-taken : p.links.rows ≡ chart_rows c.chart → 0 < spare_of p → (o.to ≡ 0 → ⊥) → refusal (put_causes w.rows w.spare e.to o.to) ≡ None
-    put-taken same room some =
+    pub put_taken : p.links.rows ≡ chart_rows c.chart → 0 < spare_of p → (o.to ≡ 0 → ⊥) → refusal (put_causes w.rows w.spare e.to o.to) ≡ None
+    put_taken same room some =
         let linked : (i : ℕ) → In i o.to → (e.to < c.chart.n) × In i (get_or c.chart.rows e.to 0) =
-        λ i h. told-linked (listener (setting c) e.to) e.from e.frame (rows_at p.shelves e.to) i (subst (λ (r : Outcome). In i r.to) out-is h) in
-        let m = some-member o.to (omega arith) in
+        λ i h. told-linked (listener (setting c) e.to) e.from e.frame (rows_at p.shelves e.to) i (subst (λ (r : Outcome). In i r.to) out_is h) in
+        let m = some_member o.to (omega arith) in
         puts c.chart w (take.kept.rows ∙ same) e.to o.to (linked m.0 m.1).0 (omega arith)
         (bit_lacks o.to e.to (not_in o.to e.to (λ h. c.chart.apart e.to (linked e.to h).1)))
-        (within-inside o.to (get_or c.chart.rows e.to 0) (within_by o.to (get_or c.chart.rows e.to 0) (λ i h. (linked i h).1)))
+        (within_inside o.to (get_or c.chart.rows e.to 0) (within_by o.to (get_or c.chart.rows e.to 0) (λ i h. (linked i h).1)))
         (omega (arith, take.spare))
 
 pub told_is : (c : PassedChart) (p : Parts) (k : ℕ) (e : Entry) (w : links.Meaning) (t : Option Heard) → Taken p.links k e w

@@ -11,7 +11,7 @@ use Rattle.shelves.specs.Shelves.{fewest, heard_on}
 use Rattle.relaying.specs.Laws.{fresh}
 use Rattle.bases.specs.declared.base.Base.{Base}
 use Rattle.bases.specs.Parts.{parts, StartedOn}
-use Rattle.bases.proofs.Starting.{roomy, fresh-spare}
+use Rattle.bases.proofs.Starting.{roomy, fresh_spare}
 use Rattle.relay.specs.Relays.{Opened}
 
 module _ {L : Type 0} (m : L → links.Meaning) (laws : Laws m) where
@@ -27,7 +27,7 @@ module _ {L : Type 0} (m : L → links.Meaning) (laws : Laws m) where
           heard = quiet;
           waiting = ap length start.waiting;
           astray = on.astray;
-          spare = roomy (m b.links).spare (fewest at) (fresh-spare m laws l b.links c.chart start) on.free;
+          spare = roomy (m b.links).spare (fewest at) (fresh_spare m laws l b.links c.chart start) on.free;
         };
         kept = record { rows = start.rows; reached = fresh (record { shelf = on.shelves; waiting = start.waiting; astray = on.astray }) };
       }

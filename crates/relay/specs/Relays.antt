@@ -7,7 +7,7 @@
 --   telling         what carrying an entry tells: its note, if the receiver's step ends in hearing
 --   telling_of      what carrying the frame at an index tells
 --   SaysRelay, MeddlesRelay   a say and a meddle, as of every carrier over a link service
---   CarriedOn      an accepted carry: the entry e is taken, its receiver takes the step, and what goes on is put; the link service keeps its chart and memory
+--   CarriedOn       an accepted carry: the entry e is taken, its receiver takes the step, and what goes on is put; the link service keeps its chart and memory
 --   Stopped         the entry is taken and its receiver took the step, but the link service refuses what goes on; where the relay is sound this cannot be
 --   CarriesRelay    a carry: accepted, or refused with nothing changed, or stopped
 --   Fitting         the link service has this chart, and the state is one that says, carries and meddles led to from a fresh one

@@ -2,13 +2,13 @@
 --   lawful       a state that calls led to keeps the two laws
 --   say_on, meddle_on   a say and a meddle whole, refused ones included
 --   fits_on      a carry leads on to such a state
---   carry-quiet, carry-hears   what a carry leaves that lets nobody hear, and one that lets its receiver hear
+--   carry_quiet, carry_hears   what a carry leaves that lets nobody hear, and one that lets its receiver hear
 use Rattle.std.specs.Prelude.{◌≡◌, ℕ, ◌+◌, ◌≤◌, Bool, true, false, ◌&&◌, ◌||◌, List, [], ◌∷◌, ◌++◌, length, Some, None, Ok, Err, filter, Option, Result, ◌==◌, slice_index, slice_index_or, refl}
 use Rattle.std.proofs.Common.{sym, ap, subst, ◌∙◌, ⊎_elim, arith}
 use Rattle.std.proofs.lemmas.List.{nil_from_length}
 use Rattle.std.proofs.lemmas.Bool.{cases_Bool, cases_eq, both_ways, eq-eqb, ne_eqb}
 use Rattle.sets.specs.Sets.{labels, count}
-use Rattle.sets.proofs.Counts.{adding-most}
+use Rattle.sets.proofs.Counts.{adding_most}
 use Rattle.sets.proofs.Members.{has_in}
 use Rattle.sets.proofs.Removed.{each-only}
 use Rattle.refusals.specs.declared.Fault.{Fault}
@@ -24,14 +24,14 @@ use Rattle.shelves.specs.Rows.{row_of, keyed, stays}
 use Rattle.shelves.specs.Shelves.{rows_at, heard_on}
 use Rattle.shelves.proofs.Hearing.{heard-held}
 use Rattle.pathsets.specs.Keys.{same_key, sets_of}
-use Rattle.pathsets.proofs.RowSets.{heard_sets, same-key_sym}
+use Rattle.pathsets.proofs.RowSets.{heard_sets, same_key_sym}
 use Rattle.relaying.specs.States.{heard, Says, Meddles, stepped_at}
 use Rattle.relaying.specs.Invariants.{Kept}
 use Rattle.relaying.specs.Laws.{said, carried, meddled}
 use Rattle.relaying.specs.Laws as laws
 use Rattle.relaying.proofs.KeptSay.{unsaid_none}
-use Rattle.relaying.proofs.Laws.{kept-reached, relay_laws_lem}
-use Rattle.relaying.proofs.Answers.{carry-answers}
+use Rattle.relaying.proofs.Laws.{kept_reached, relay_laws_lem}
+use Rattle.relaying.proofs.Answers.{carry_answers}
 use Rattle.relaying.proofs.Toil.{toil_falls, toil_rises}
 use Rattle.agreement.specs.Meanings.{Lawful}
 use Rattle.agreement.specs.Carrying.{Adds, Silent, Said, Quiet, Hears, Meddled}
@@ -39,33 +39,33 @@ use Rattle.carriers.specs.declared.heard.Heard.{Heard}
 use Rattle.carriers.specs.Calls.{Say, Meddle}
 use Rattle.carriers.specs.Judging.{saying_causes, meddling_causes}
 use Rattle.bases.specs.Parts.{Parts, spare_of, Spoken, SaysOn, MeddledTo, MeddlesOn}
-use Rattle.carriers.specs.Accepted.{may_say, may_meddle, judged-meddle}
+use Rattle.carriers.specs.Accepted.{may_say, may_meddle, judged_meddle}
 use Rattle.bases.proofs.ChartRows.{row_is}
 use Rattle.bases.proofs.Again.{adds_none}
-use Rattle.bases.proofs.Puts.{never, less-spare, as_free, say-puts, meddle-puts}
+use Rattle.bases.proofs.Puts.{never, less_spare, as_free, say_puts, meddle_puts}
 use Rattle.relay.specs.Relays.{setting, state, meaning_of, Fitting, CarriedOn}
 use Rattle.relay.specs.Charts.{charted, neighbour}
 
 le_plus : (a b : ℕ) → a ≤ a + b
 le_plus a b = omega arith
 
-spare-le : (p : Parts) → spare_of p ≤ p.links.spare
-spare-le p = omega arith
+spare_le : (p : Parts) → spare_of p ≤ p.links.spare
+spare_le p = omega arith
 
 -- ---- rows
 
 -- where nothing is held for a key, no row of it goes
-kept-all : (a : ℕ) (x : Note) (u : ℕ) (rs : List Row) → sets_of a x rs ≡ [] → filter (stays a x u) rs ≡ rs
-kept-all a x u [] h = refl
-kept-all a x u (r ∷ rs) h = ⊎_elim
+kept_all : (a : ℕ) (x : Note) (u : ℕ) (rs : List Row) → sets_of a x rs ≡ [] → filter (stays a x u) rs ≡ rs
+kept_all a x u [] h = refl
+kept_all a x u (r ∷ rs) h = ⊎_elim
     (λ (e : keyed a x r ≡ true). absurd (let z : r.held ∷ sets_of a x rs ≡ [] = rw e at h in omega (arith, ap length z)))
-    (λ (e : keyed a x r ≡ false). rw e (ap (λ (t : List Row). r ∷ t) (kept-all a x u rs (rw e at h))))
+    (λ (e : keyed a x r ≡ false). rw e (ap (λ (t : List Row). r ∷ t) (kept_all a x u rs (rw e at h))))
     (cases_Bool (keyed a x r))
 
 -- ---- what is heard, in the theory and on the shelves
 
-heard-is : (p : Parts) (l a : ℕ) (x : Note) → heard_on p.shelves l a x ≡ heard (state p) l a x
-heard-is p l a x = heard_sets a x (rows_at p.shelves l)
+heard_is : (p : Parts) (l a : ℕ) (x : Note) → heard_on p.shelves l a x ≡ heard (state p) l a x
+heard_is p l a x = heard_sets a x (rows_at p.shelves l)
 
 eqb_sym : (i j : ℕ) → (i == j) ≡ (j == i)
 eqb_sym i j = ⊎_elim (λ (e : i ≡ j). eq-eqb i j e ∙ sym (eq-eqb j i (sym e))) (λ ne. ne_eqb i j ne ∙ sym (ne_eqb j i (λ e. ne (sym e)))) (cases_eq i j)
@@ -73,28 +73,28 @@ eqb_sym i j = ⊎_elim (λ (e : i ≡ j). eq-eqb i j e ∙ sym (eq-eqb j i (sym 
 as_adds : (c : PassedChart) (p p' : Parts) (l a : ℕ) (x : Note) → laws.Adds (state p) l a x (state p') → Adds (meaning_of c p) l a x (meaning_of c p')
 as_adds c p p' l a x h = record {
   at = λ i b y.
-      heard-is p' i b y ∙ h i b y ∙ ap (λ (t : Bool). t || (i == l && same_key b y a x)) (sym (heard-is p i b y))
+      heard_is p' i b y ∙ h i b y ∙ ap (λ (t : Bool). t || (i == l && same_key b y a x)) (sym (heard_is p i b y))
       ∙ ap (λ (t : Bool). heard_on p.shelves i b y || (t && same_key b y a x)) (eqb_sym i l)
-      ∙ ap (λ (t : Bool). heard_on p.shelves i b y || (l == i && t)) (same-key_sym b y a x);
+      ∙ ap (λ (t : Bool). heard_on p.shelves i b y || (l == i && t)) (same_key_sym b y a x);
 }
 
 as_silent : (c : PassedChart) (p p' : Parts) → laws.AddsNothing (state p) (state p') → Silent (meaning_of c p) (meaning_of c p')
-as_silent c p p' h = record { at = λ i b y. heard-is p' i b y ∙ h i b y ∙ sym (heard-is p i b y) }
+as_silent c p p' h = record { at = λ i b y. heard_is p' i b y ∙ h i b y ∙ sym (heard_is p i b y) }
 
 module _ (c : PassedChart) (p : Parts) (s : Fitting c p) where
   abbrev n : ℕ
   n = c.chart.n
 
   kept : Kept (setting c) (state p)
-  kept = kept-reached (setting c) (state p) (charted c) s.reached
+  kept = kept_reached (setting c) (state p) (charted c) s.reached
 
   pub lawful : Lawful (meaning_of c p)
   lawful =
       let both = relay_laws_lem (setting c) (state p) (charted c) c.passed s.reached in
       record {
         limits = record { least = c.chart.few.0; most = c.chart.few.1; few = c.enough };
-        nothing_invented = λ l a t hl ha h. heard-is p a a t ∙ both.0 l a t hl.loyal ha.loyal (sym (heard-is p l a t) ∙ h);
-        nothing_lost = λ none l a t hl ha h. heard-is p l a t ∙ both.1 (nil_from_length p.links.waiting none) l a t hl.below hl.loyal ha.loyal (sym (heard-is p a a t) ∙ h);
+        nothing_invented = λ l a t hl ha h. heard_is p a a t ∙ both.0 l a t hl.loyal ha.loyal (sym (heard_is p l a t) ∙ h);
+        nothing_lost = λ none l a t hl ha h. heard_is p l a t ∙ both.1 (nil_from_length p.links.waiting none) l a t hl.below hl.loyal ha.loyal (sym (heard_is p a a t) ∙ h);
       }
 
   -- ---- say
@@ -103,20 +103,20 @@ module _ (c : PassedChart) (p : Parts) (s : Fitting c p) where
       → Spoken c.chart p a x p' → Says (setting c) (state p) a x (state p')
   says p' a x ok new spoken =
       let may = may_say n (spare_of p) a x ok in
-      let unheard = sym (heard-is p a a x) ∙ new in
+      let unheard = sym (heard_is p a a x) ∙ new in
       record {
         author = may.label;
         sound = may.sound;
         new = unheard;
-        own = spoken.held.here.1 ∙ ap (λ (t : List Row). t ++ row_of a x 0 ∷ []) (kept-all a x 0 (rows_at p.shelves a) (unsaid_none (setting c) (state p) a x kept unheard));
+        own = spoken.held.here.1 ∙ ap (λ (t : List Row). t ++ row_of a x 0 ∷ []) (kept_all a x 0 (rows_at p.shelves a) (unsaid_none (setting c) (state p) a x kept unheard));
         other = spoken.held.others;
         waiting = spoken.put.waiting;
         astray = spoken.astray;
       }
 
-  pub say-step : (p' : Parts) (a : ℕ) (x : Note) → refusal (saying_causes n (spare_of p) a x) ≡ None → heard_on p.shelves a a x ≡ false
+  pub say_step : (p' : Parts) (a : ℕ) (x : Note) → refusal (saying_causes n (spare_of p) a x) ≡ None → heard_on p.shelves a a x ≡ false
       → Spoken c.chart p a x p' → Said 14343 (meaning_of c p) a x (meaning_of c p') × Fitting c p'
-  say-step p' a x ok new spoken =
+  say_step p' a x ok new spoken =
       let sy = says p' a x ok new spoken in (
         record {
           fixed = record { n = refl; f = refl; chart = refl };
@@ -124,7 +124,7 @@ module _ (c : PassedChart) (p : Parts) (s : Fitting c p) where
           again = λ e. absurd (both_ways _ new e);
           astray = spoken.astray;
           toil = toil_rises (setting c) (state p) (state p') a x (charted c) s.reached sy;
-          spare = less-spare _ _ _ _ spoken.put.spare spoken.held.free;
+          spare = less_spare _ _ _ _ spoken.put.spare spoken.held.free;
         },
         record { rows = spoken.put.kept.rows ∙ s.rows; reached = said s.reached sy },
       )
@@ -145,12 +145,12 @@ module _ (c : PassedChart) (p : Parts) (s : Fitting c p) where
         ),
         s,
       ))
-      (λ new. let r = say-step p' a x ok new (spoken new) in ((ok, r.0), r.1))
+      (λ new. let r = say_step p' a x ok new (spoken new) in ((ok, r.0), r.1))
       (cases_Bool (heard_on p.shelves a a x))
   say_on a x (Err e) p' (same, why) = ⊎_elim
       (λ (h : refusal (saying_causes n (spare_of p) a x) ≡ Some (told e)).
       ((h, ap (meaning_of c) same), subst (Fitting c) (sym same) s))
-      (λ h. never _ _ (say-puts c.chart p.links s.rows (spare_of p) a x h.0 (spare-le p) (neighbour c a (may_say n (spare_of p) a x h.0).label)) h.1)
+      (λ h. never _ _ (say_puts c.chart p.links s.rows (spare_of p) a x h.0 (spare_le p) (neighbour c a (may_say n (spare_of p) a x h.0).label)) h.1)
       why
 
   -- ---- carry
@@ -160,13 +160,13 @@ module _ (c : PassedChart) (p : Parts) (s : Fitting c p) where
 
   module _ (k : ℕ) (e : Entry) (t : Option Heard) (p' : Parts) (co : CarriedOn c p k e t p') where
     answers : laws.Answers (setting c) (state p) e (state p')
-    answers = carry-answers (setting c) (state p) (state p') k e (charted c) s.reached co.carries
+    answers = carry_answers (setting c) (state p) (state p') k e (charted c) s.reached co.carries
 
     falls : (meaning_of c p').toil + 1 ≤ (meaning_of c p).toil
     falls = toil_falls (setting c) (state p) (state p') k e (charted c) s.reached co.carries
 
-    pub carry-quiet : (stepped_at (setting c) (state p) e).out.heard ≡ false → Quiet (meaning_of c p) (meaning_of c p')
-    carry-quiet h = record {
+    pub carry_quiet : (stepped_at (setting c) (state p) e).out.heard ≡ false → Quiet (meaning_of c p) (meaning_of c p')
+    carry_quiet h = record {
       fixed = record { n = refl; f = refl; chart = refl };
       heard = as_silent c p p' (answers.nothing h);
       astray = co.carries.astray;
@@ -174,11 +174,11 @@ module _ (c : PassedChart) (p : Parts) (s : Fitting c p) where
       spare = co.spare;
     }
 
-    pub carry-hears : (stepped_at (setting c) (state p) e).out.heard ≡ true
+    pub carry_hears : (stepped_at (setting c) (state p) e).out.heard ≡ true
         → Hears (meaning_of c p) e.to e.frame.author e.frame.note (meaning_of c p')
-    carry-hears h = record {
+    carry_hears h = record {
       fixed = record { n = refl; f = refl; chart = refl };
-      new = heard-is p e.to e.frame.author e.frame.note ∙ answers.new h;
+      new = heard_is p e.to e.frame.author e.frame.note ∙ answers.new h;
       listener = (answers.labels h).0;
       author = (answers.labels h).1;
       apart = answers.different h;
@@ -198,20 +198,20 @@ module _ (c : PassedChart) (p : Parts) (s : Fitting c p) where
       let may = may_meddle n c.f row p.astray (spare_of p) i to ok in
       record {
         link = has_in row to may.linked;
-        few = subst (λ (m : ℕ). count m ≤ c.f) (sym done.astray) (adding-most i p.astray c.f kept.few_astray may.few);
+        few = subst (λ (m : ℕ). count m ≤ c.f) (sym done.astray) (adding_most i p.astray c.f kept.few_astray may.few);
         shelf = λ q. ap (λ (at : List Shelf). rows_at at q) done.shelves;
         waiting = done.put.waiting ∙ ap (λ (l : List Entry). p.links.waiting ++ l) (each-only (entry_to i t) to labels (omega (arith, may.other, c.chart.few)));
         astray = done.astray;
       }
 
-  pub meddle-step : (i to : ℕ) (t : Frame) (p' : Parts) → refusal (meddling_causes n c.f (slice_index c.chart.rows i) p.astray (spare_of p) i to) ≡ None
+  pub meddle_step : (i to : ℕ) (t : Frame) (p' : Parts) → refusal (meddling_causes n c.f (slice_index c.chart.rows i) p.astray (spare_of p) i to) ≡ None
       → MeddledTo p i to t p' → Meddled (meaning_of c p) i (meaning_of c p') × Fitting c p'
-  meddle-step i to t p' ok done = (
+  meddle_step i to t p' ok done = (
     record {
       fixed = record { n = refl; f = refl; chart = refl };
       heard = record { at = λ l a x. ap (λ (at : List Shelf). heard_on at l a x) done.shelves };
       astray = done.astray;
-      spare = less-spare _ _ _ _ done.put.spare (as_free done.shelves);
+      spare = less_spare _ _ _ _ done.put.spare (as_free done.shelves);
     },
     record { rows = done.put.kept.rows ∙ s.rows; reached = meddled s.reached (meddles i to t p' ok done) },
   )
@@ -219,13 +219,13 @@ module _ (c : PassedChart) (p : Parts) (s : Fitting c p) where
   -- a row of the chart is a row of its meaning
   as_meant : (i to : ℕ) {o : Option Told} → refusal (meddling_causes n c.f (slice_index c.chart.rows i) p.astray (spare_of p) i to) ≡ o
       → refusal (meddling_causes n c.f (slice_index (chart_rows c.chart) i) p.astray (spare_of p) i to) ≡ o
-  as_meant i to h = judged-meddle n c.f p.astray i to (row_is c.chart i) refl h
+  as_meant i to h = judged_meddle n c.f p.astray i to (row_is c.chart i) refl h
 
   pub meddle_on : (i to : ℕ) (t : Frame) (r : Result Unit Fault) (p' : Parts) → MeddlesOn c.chart c.f p i to t r p'
       → Meddle (meaning_of c p) i to r (meaning_of c p') × Fitting c p'
-  meddle_on i to t (Ok _) p' (ok, done) = let r = meddle-step i to t p' ok done in ((as_meant i to ok, r.0), r.1)
+  meddle_on i to t (Ok _) p' (ok, done) = let r = meddle_step i to t p' ok done in ((as_meant i to ok, r.0), r.1)
   meddle_on i to t (Err e) p' (same, why) = ⊎_elim
       (λ (h : refusal (meddling_causes n c.f (slice_index c.chart.rows i) p.astray (spare_of p) i to) ≡ Some (told e)).
       ((as_meant i to h, ap (meaning_of c) same), subst (Fitting c) (sym same) s))
-      (λ h. never _ _ (meddle-puts c.chart p.links s.rows c.f p.astray (spare_of p) i to h.0 (spare-le p)) h.1)
+      (λ h. never _ _ (meddle_puts c.chart p.links s.rows c.f p.astray (spare_of p) i to h.0 (spare_le p)) h.1)
       why

@@ -9,7 +9,7 @@
 use Rattle.std.proofs.Common.{◌≡◌, ℕ, ◌<◌, true, false, ◌&&◌, eqb, ◌⊎◌, List, [], ◌∷◌, length, get_or, sym, ap, ◌∙◌, subst, inl, inr, ⊎_elim}
 use Rattle.std.specs.List.{ContainsAt as Has, AllByRecursion as All}
 use Rattle.std.proofs.lemmas.Bool.{and_from, and_left, and_right, cases_eq, eq-eqb, ne_eqb}
-use Rattle.frames.proofs.NoteLaws.{same-note_self}
+use Rattle.frames.proofs.NoteLaws.{same_note_self}
 use Rattle.frames.specs.Notes.{same_note}
 use Rattle.frames.specs.declared.notes.Note.{Note}
 use Rattle.pathsets.proofs.Families.{covering-heard, heard-covering}
@@ -53,7 +53,7 @@ module _ (H H' : Holdings) (p a : ℕ) (x : Note) (F : List ℕ) (ch : Changed H
   cases_change b c y = ⊎_elim
       (λ (e : b ≡ p). ⊎_elim
       (λ (k : (c ≡ a) × (y ≡ x)). inl (
-        and_from (eqb b p) (same_key c y a x) (eq-eqb b p e) (and_from _ _ (eq-eqb c a k.0) (subst (λ (z : Note). same_note y z ≡ true) k.1 (same-note_self y))),
+        and_from (eqb b p) (same_key c y a x) (eq-eqb b p e) (and_from _ _ (eq-eqb c a k.0) (subst (λ (z : Note). same_note y z ≡ true) k.1 (same_note_self y))),
         ap (λ (z : ℕ). H' z c y) e ∙ ap (λ (z : ℕ). H' p z y) k.0 ∙ ap (H' p a) k.1 ∙ ch.own,
       ))
       (λ k. inr (and_right (eqb b p) (same_key c y a x) k, ap (λ (z : ℕ). H' z c y) e ∙ ch.key c y k ∙ ap (λ (z : ℕ). H z c y) (sym e))) (cases_key c y a x))

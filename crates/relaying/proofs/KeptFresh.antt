@@ -5,7 +5,7 @@ use Rattle.std.proofs.lemmas.Bool.{both_ways}
 use Rattle.sets.proofs.Counts.{count-zero}
 use Rattle.sets.specs.Sets.{bit, count, only, shared}
 use Rattle.frames.specs.declared.notes.Note.{Note}
-use Rattle.pathsets.proofs.HittingLaws.{hittable-decides}
+use Rattle.pathsets.proofs.HittingLaws.{hittable_decides}
 use Rattle.pathsets.specs.Families.{Antichain, holds}
 use Rattle.pathsets.specs.Hitting.{hittable}
 use Rattle.pathsets.specs.Keys.{sets_of}
@@ -23,7 +23,7 @@ module _ (g : Setting) (s : State) (fr : Fresh s) where
     linked = subst (All _) (sym fr.waiting) tt;
     proper = λ p a x. subst (All (Proper g.n p a x)) (none p a x) tt;
     antichain = λ p a x. subst Antichain (none p a x) tt;
-    settled = λ p a x. inr (ap (hittable g.f) (sym (none p a x)) ∙ (hittable-decides g.f []).1 (0, omega (arith, count-zero), tt));
+    settled = λ p a x. inr (ap (hittable g.f) (sym (none p a x)) ∙ (hittable_decides g.f []).1 (0, omega (arith, count-zero), tt));
     tainted = λ p a x _ _. subst (All (λ v. 0 < shared v s.astray)) (none p a x) tt;
     tainted_waiting = subst (All _) (sym fr.waiting) tt;
     told = λ p r a x _ _ _. subst (All (λ v. bit v r ≡ 0 → Told s p r a x v)) (none p a x) tt;

@@ -1,22 +1,22 @@
 -- What a carry does: the frame is dropped, or taken in. Assumes nothing.
 --   Family         the family F that is held once the path u was taken into ss, and the set v that is sent on
 --   one_set        the empty set is no set of one craft
---   family-heard, family-quiet   the family where the note is heard, and where it is not
+--   family_heard, family_quiet   the family where the note is heard, and where it is not
 --   Took, Dropped  what holds of a carry whose frame was taken in, and of one whose frame was dropped
 --   carried        each carry is one of the two
 use Rattle.std.proofs.Common.{◌≡◌, ℕ, ◌<◌, ◌≤◌, true, false, eqb, ◌⊎◌, List, [], ◌∷◌, ◌++◌, sym, refl, ap, ◌∙◌, inl, inr, ⊎_elim, arith, pow_pos}
 use Rattle.std.specs.List.{remove, AllByRecursion as All}
 use Rattle.std.proofs.lemmas.List.{append-nil}
 use Rattle.std.proofs.lemmas.Bool.{and_cases, and_parts, both_ways, cases_Bool, cases_eq, cond-false, cond-true, eqb-true, not-false, not-true, or_cases, true≢false}
-use Rattle.sets.proofs.Removed.{each-empty}
+use Rattle.sets.proofs.Removed.{each_empty}
 use Rattle.sets.specs.Sets.{count, labels, only, passing, shared}
 use Rattle.frames.specs.declared.notes.Note.{Note}
 use Rattle.links.specs.Meanings.{entry_to, sent}
 use Rattle.links.specs.declared.entries.Entry.{Entry}
 use Rattle.shelves.specs.Rows.{holding}
 use Rattle.shelves.specs.declared.kinds.Row.{Row}
-use Rattle.pathsets.proofs.Families.{all_inserted, antichain-inserted, covering-all, covering-inserted, covering-new, holds_push, inserted-zero}
-use Rattle.pathsets.proofs.HittingLaws.{hittable-decides}
+use Rattle.pathsets.proofs.Families.{all_inserted, antichain_inserted, covering_all, covering-inserted, covering_new, holds_push, inserted-zero}
+use Rattle.pathsets.proofs.HittingLaws.{hittable_decides}
 use Rattle.pathsets.proofs.RowSets.{covered_sets, sets_holding, sets_other}
 use Rattle.pathsets.proofs.StepLaws.{fits-tells}
 use Rattle.pathsets.specs.Families.{Antichain, covering, holds, inserted}
@@ -45,30 +45,30 @@ one_set r h = ⊎_elim
     (λ (e : eqb (only r) 0 ≡ true). let z = eqb-true (only r) 0 e in omega (arith, pow_pos r))
     (λ e. true≢false (sym e)) (or_cases (eqb (only r) 0) false h)
 
-pub family-heard : (f : ℕ) (ss : List ℕ) (u : ℕ) → hears f (inserted u ss) ≡ true → Family f ss u 0 (0 ∷ [])
-family-heard f ss u h = record {
+pub family_heard : (f : ℕ) (ss : List ℕ) (u : ℕ) → hears f (inserted u ss) ≡ true → Family f ss u 0 (0 ∷ [])
+family_heard f ss u h = record {
   all = λ P a v. (v, tt);
   holds_set = refl;
   single = λ r t. absurd (one_set r t);
   set = inr refl;
   antichain = λ _. (tt, tt);
   settled = inl refl;
-  grows = λ m _. covering-all (0 ∷ []) m refl;
-  covers = covering-all (0 ∷ []) u refl;
+  grows = λ m _. covering_all (0 ∷ []) m refl;
+  covers = covering_all (0 ∷ []) u refl;
   met = λ h' o a t. absurd (both_ways (hittable f (inserted u ss)) (not-true _ h)
-      ((hittable-decides f (inserted u ss)).1 (h', o, all_inserted (λ s. 0 < shared s h') u ss a t)));
+      ((hittable_decides f (inserted u ss)).1 (h', o, all_inserted (λ s. 0 < shared s h') u ss a t)));
 }
 
-pub family-quiet : (f : ℕ) (ss : List ℕ) (u : ℕ) → covering ss u ≡ false → hears f (inserted u ss) ≡ false → Family f ss u u (inserted u ss)
-family-quiet f ss u bare h = record {
+pub family_quiet : (f : ℕ) (ss : List ℕ) (u : ℕ) → covering ss u ≡ false → hears f (inserted u ss) ≡ false → Family f ss u u (inserted u ss)
+family_quiet f ss u bare h = record {
   all = λ P a v. all_inserted P u ss a v;
   holds_set = holds_push u _;
   single = λ r t. t;
   set = inl refl;
-  antichain = antichain-inserted u ss bare;
+  antichain = antichain_inserted u ss bare;
   settled = inr (not-false _ h);
   grows = covering-inserted u ss;
-  covers = covering-new u ss;
+  covers = covering_new u ss;
   met = λ h' o a t. t;
 }
 
@@ -120,7 +120,7 @@ module _ (g : Setting) (s : State) (k : ℕ) (e : Entry) (s' : State) (c : Carri
             (and_cases (fits g.n p e.from e.frame) _ no');
         same = λ b. ⊎_elim (λ (h : b ≡ p). ap s'.shelf h ∙ c.own ∙ ap (λ (o : Stepped). o.rows) out ∙ ap s.shelf (sym h)) (λ ne. c.other b ne) (cases_eq b p);
         waiting = c.waiting ∙ ap (λ (o : Stepped). remove s.waiting k ++ sent p o.out.to (frame_of a x o.out.set)) out
-            ∙ ap (λ (l : List Entry). remove s.waiting k ++ l) (each-empty (entry_to p (frame_of a x 0)) labels) ∙ append-nil (remove s.waiting k);
+            ∙ ap (λ (l : List Entry). remove s.waiting k ++ l) (each_empty (entry_to p (frame_of a x 0)) labels) ∙ append-nil (remove s.waiting k);
         quiet = ap (λ (o : Stepped). o.out.heard) out;
       }
 
@@ -150,7 +150,7 @@ module _ (g : Setting) (s : State) (k : ℕ) (e : Entry) (s' : State) (c : Carri
         bare = bare;
         v = 0;
         F = 0 ∷ [];
-        family = family-heard g.f (sets_of a x rs) u (ap (hears g.f) (sym is) ∙ h);
+        family = family_heard g.f (sets_of a x rs) u (ap (hears g.f) (sym is) ∙ h);
         changed = changed_by (holding then a x 0) (0 ∷ []) (c.own ∙ ap (λ (o : Stepped). o.rows) o)
             (sets_holding a x 0 then ∙ inserted-zero (sets_of a x then))
             (λ b y d. sets_other a x 0 b y then d ∙ sets_other a x u b y rs d);
@@ -165,7 +165,7 @@ module _ (g : Setting) (s : State) (k : ℕ) (e : Entry) (s' : State) (c : Carri
         bare = bare;
         v = u;
         F = inserted u (sets_of a x rs);
-        family = family-quiet g.f (sets_of a x rs) u bare (ap (hears g.f) (sym is) ∙ h);
+        family = family_quiet g.f (sets_of a x rs) u bare (ap (hears g.f) (sym is) ∙ h);
         changed = changed_by then (inserted u (sets_of a x rs)) (c.own ∙ ap (λ (o : Stepped). o.rows) o) is (λ b y d. sets_other a x u b y rs d);
         answer = inr (ap (λ (o : Stepped). o.out.heard) o, refl, ap (hears g.f) (sym is) ∙ h);
         waiting = c.waiting ∙ ap (λ (o : Stepped). remove s.waiting k ++ sent p o.out.to (frame_of a x o.out.set)) o

@@ -7,26 +7,26 @@ use Rattle.std.proofs.lemmas.List.Edits.{length-remove}
 use Rattle.std.proofs.ByRecursion.{All-append, all-has, all_has_itself, All-weaker}
 use Rattle.std.proofs.lemmas.List.{length-append}
 use Rattle.std.proofs.lemmas.Bool.{cases_Bool, cond-false, cond-true, or_left, or_right}
-use Rattle.sets.proofs.Each.{each_all, each-few}
+use Rattle.sets.proofs.Each.{each_all, each_few}
 use Rattle.sets.proofs.Members.{bit_lacks, cases_in, not_in}
-use Rattle.sets.proofs.Removed.{all-removed}
+use Rattle.sets.proofs.Removed.{all_removed}
 use Rattle.sets.specs.Sets.{In, bit, labels, passing}
 use Rattle.frames.specs.declared.notes.Frame.{Frame}
 use Rattle.frames.specs.declared.notes.Note.{Note}
 use Rattle.links.specs.Meanings.{entry_to, sent}
 use Rattle.links.specs.declared.entries.Entry.{Entry}
-use Rattle.pathsets.proofs.StepLaws.{path-lt, tells-in}
+use Rattle.pathsets.proofs.StepLaws.{path_lt, tells_in}
 use Rattle.pathsets.specs.Families.{covering, inserted}
 use Rattle.pathsets.specs.Keys.{sets_of}
 use Rattle.pathsets.specs.Steps.{path, tells}
 use Rattle.relaying.proofs.Changes.{Changed, at_key, cover_stays, has-taken}
-use Rattle.relaying.proofs.KeptCarry.{link-to}
-use Rattle.relaying.proofs.KeptSay.{said_change, say-stays}
-use Rattle.relaying.proofs.KeySums.{among_either, among-left, among-right, among-waiting, equal-tells, shelves-some, some, some-shelves, total-less, total_mono, total-more_but, waiting_among}
-use Rattle.relaying.proofs.Laws.{kept-reached}
+use Rattle.relaying.proofs.KeptCarry.{link_to}
+use Rattle.relaying.proofs.KeptSay.{said_change, say_stays}
+use Rattle.relaying.proofs.KeySums.{among_either, among_left, among-right, among_waiting, equal-tells, shelves_some, some, some_shelves, total-less, total_mono, total_more_but, waiting_among}
+use Rattle.relaying.proofs.Laws.{kept_reached}
 use Rattle.relaying.proofs.Sums.{sum_less, sum_mono}
 use Rattle.relaying.proofs.Taken.{Dropped, Took, carried}
-use Rattle.relaying.proofs.Uncovered.{uncovered-heard, uncovered-le, uncovered-less, uncovered_mono}
+use Rattle.relaying.proofs.Uncovered.{uncovered-heard, uncovered_le, uncovered-less, uncovered_mono}
 use Rattle.relaying.specs.Distinct.{among, sum_distinct}
 use Rattle.relaying.specs.Invariants.{Kept}
 use Rattle.relaying.specs.Laws.{Charted}
@@ -35,12 +35,12 @@ use Rattle.relaying.specs.Toil.{Key, ToilFalls, ToilRises, equal, fan_out, gain,
 
 -- ---- a put
 
-label-set : (n : ℕ) → n ≤ labels → (m : ℕ) → m < 2 ^ n → m < label_sets
-label-set n few m h = let l : 2 ^ n ≤ 2 ^ labels = pow_mono few in omega arith
+label_set : (n : ℕ) → n ≤ labels → (m : ℕ) → m < 2 ^ n → m < label_sets
+label_set n few m h = let l : 2 ^ n ≤ 2 ^ labels = pow_mono few in omega arith
 
 -- a put leaves out the craft that puts
-sent-few : (p to : ℕ) (m : Frame) → p < labels → bit to p ≡ 0 → length (sent p to m) ≤ fan_out
-sent-few p to m l z = omega (arith, each-few (entry_to p m) to p labels (bit_lacks to p z) l)
+sent_few : (p to : ℕ) (m : Frame) → p < labels → bit to p ≡ 0 → length (sent p to m) ≤ fan_out
+sent_few p to m l z = omega (arith, each_few (entry_to p m) to p labels (bit_lacks to p z) l)
 
 -- every entry of a put has the key of its frame
 sent-keys : (p to : ℕ) (m : Frame) → All (λ e. key_of e ≡ (m.author, m.note)) (sent p to m)
@@ -53,10 +53,10 @@ module _ (g : Setting) (s s' : State) (p a : ℕ) (x : Note) (F : List ℕ) (ch 
   abbrev Before : Key → Type 0
   Before k = (k ≡ (a, x)) ⊎ (among equal k (keys g s) ≡ true)
 
-  shelf-before : (k : Key) (b : ℕ) → b < g.n → some (held s' b k.0 k.1) ≡ true → Before k
-  shelf-before k b l h = at_key (held s) (held s') p a x F ch (λ b c y L. b < g.n → some L ≡ true → Before (c, y))
+  shelf_before : (k : Key) (b : ℕ) → b < g.n → some (held s' b k.0 k.1) ≡ true → Before k
+  shelf_before k b l h = at_key (held s) (held s') p a x F ch (λ b c y L. b < g.n → some L ≡ true → Before (c, y))
       (λ _ _. inl refl)
-      (λ b c y l h. inr (among-right (c, y) (waiting_keys s.waiting) (shelves_keys s.shelf g.n) (some-shelves (c, y) s.shelf g.n b l h)))
+      (λ b c y l h. inr (among-right (c, y) (waiting_keys s.waiting) (shelves_keys s.shelf g.n) (some_shelves (c, y) s.shelf g.n b l h)))
       b k.0 k.1 l h
 
   -- what waits now waited before, or has the key that changed
@@ -67,9 +67,9 @@ module _ (g : Setting) (s s' : State) (p a : ℕ) (x : Note) (F : List ℕ) (ch 
         let r = waiting_among k s'.waiting w in
         ⊎_elim (λ (q : key_of r.0 ≡ (a, x)). inl (r.2 ∙ q))
         (λ q. inr (subst (λ (j : Key). among equal j (keys g s) ≡ true) (sym r.2)
-        (among-left (key_of r.0) (waiting_keys s.waiting) (shelves_keys s.shelf g.n) (among-waiting s.waiting r.0 q))))
+        (among_left (key_of r.0) (waiting_keys s.waiting) (shelves_keys s.shelf g.n) (among_waiting s.waiting r.0 q))))
         (all-has (λ e. (key_of e ≡ (a, x)) ⊎ Has s.waiting e) s'.waiting r.0 waits r.1))
-        (λ w. let r = shelves-some k s'.shelf g.n w in shelf-before k r.0 r.1 r.2)
+        (λ w. let r = shelves_some k s'.shelf g.n w in shelf_before k r.0 r.1 r.2)
         (among_either k (waiting_keys s'.waiting) (shelves_keys s'.shelf g.n) h)
 
     -- the key that changed was there: no key is new
@@ -106,11 +106,11 @@ module _ (g : Setting) (s : State) (k : ℕ) (e : Entry) (s' : State) (ct : Char
   link : In p (row g.chart e.from)
   link = all-has (λ e. In e.to (row g.chart e.from)) s.waiting e kp.linked here
 
-  key-there : among equal (a, x) (keys g s) ≡ true
-  key-there = among-left (a, x) (waiting_keys s.waiting) (shelves_keys s.shelf g.n) (among-waiting s.waiting e here)
+  key_there : among equal (a, x) (keys g s) ≡ true
+  key_there = among_left (a, x) (waiting_keys s.waiting) (shelves_keys s.shelf g.n) (among_waiting s.waiting e here)
 
   old_waits : (P : Entry → Type 0) → All (λ d. P d ⊎ Has s.waiting d) (remove s.waiting k)
-  old_waits P = all-removed (λ d. P d ⊎ Has s.waiting d) s.waiting k (All-weaker (Has s.waiting) (λ d. P d ⊎ Has s.waiting d) (λ d h. inr h) s.waiting (all_has_itself s.waiting))
+  old_waits P = all_removed (λ d. P d ⊎ Has s.waiting d) s.waiting k (All-weaker (Has s.waiting) (λ d. P d ⊎ Has s.waiting d) (λ d h. inr h) s.waiting (all_has_itself s.waiting))
 
   falls_dropped : Dropped g s k e s' → toil g s' + 1 ≤ toil g s
   falls_dropped dr =
@@ -120,7 +120,7 @@ module _ (g : Setting) (s : State) (k : ℕ) (e : Entry) (s' : State) (ct : Char
         other = λ b d y _. same b d y;
       } in
       let sub = no_more g s s' p a x (held s p a x) ch
-      (subst (All (λ d. (key_of d ≡ (a, x)) ⊎ Has s.waiting d)) (sym dr.waiting) (old_waits (λ d. key_of d ≡ (a, x)))) key-there in
+      (subst (All (λ d. (key_of d ≡ (a, x)) ⊎ Has s.waiting d)) (sym dr.waiting) (old_waits (λ d. key_of d ≡ (a, x)))) key_there in
       omega (
         arith,
         length-remove s.waiting k c.there,
@@ -141,11 +141,11 @@ module _ (g : Setting) (s : State) (k : ℕ) (e : Entry) (s' : State) (ct : Char
     news = sent p to (frame_of a x tk.v)
 
     below : p < g.n
-    below = link-to g.n g.chart ct e.from p link
+    below = link_to g.n g.chart ct e.from p link
 
-    few-news : length news ≤ fan_out
-    few-news = sent-few p to (frame_of a x tk.v) (omega (arith, below, g.few))
-        (⊎_elim (λ (y : In p to). absurd (ct.apart p (tells-in (row g.chart p) a tk.v (inserted u (held s p a x)) p y).0)) (λ z. z) (cases_in to p))
+    few_news : length news ≤ fan_out
+    few_news = sent_few p to (frame_of a x tk.v) (omega (arith, below, g.few))
+        (⊎_elim (λ (y : In p to). absurd (ct.apart p (tells_in (row g.chart p) a tk.v (inserted u (held s p a x)) p y).0)) (λ z. z) (cases_in to p))
 
     waits : All (λ d. (key_of d ≡ (a, x)) ⊎ Has s.waiting d) s'.waiting
     waits = subst (All (λ d. (key_of d ≡ (a, x)) ⊎ Has s.waiting d)) (sym tk.waiting)
@@ -159,19 +159,19 @@ module _ (g : Setting) (s : State) (k : ℕ) (e : Entry) (s' : State) (ct : Char
     one_less : open_sets s' p (a, x) + 1 ≤ open_sets s p (a, x)
     one_less = subst (λ (L : List ℕ). uncovered L label_sets + 1 ≤ uncovered (held s p a x) label_sets) (sym tk.changed.own)
         (uncovered-less (held s p a x) tk.F label_sets u tk.family.grows
-        (label-set g.n g.few u (path-lt g.n e.from a e.frame.set tk.fits.labels tk.fits.neighbour))
+        (label_set g.n g.few u (path_lt g.n e.from a e.frame.set tk.fits.labels tk.fits.neighbour))
         tk.bare tk.family.covers)
 
     sub : (j : Key) → among equal j (keys g s') ≡ true → among equal j (keys g s) ≡ true
-    sub = no_more g s s' p a x tk.F tk.changed waits key-there
+    sub = no_more g s s' p a x tk.F tk.changed waits key_there
 
     sum_falls : total (λ b. sum_distinct equal (open_sets s' b) (keys g s')) g.n + 1 ≤ total (λ b. sum_distinct equal (open_sets s b) (keys g s)) g.n
     sum_falls = total-less (λ b. sum_distinct equal (open_sets s' b) (keys g s')) (λ b. sum_distinct equal (open_sets s b) (keys g s)) g.n p below
         (λ b _. sum_mono equal equal-tells (open_sets s' b) (open_sets s b) (keys g s') (keys g s) sub (fewer_free s s' stays b))
-        (sum_less equal equal-tells (open_sets s' p) (open_sets s p) 1 (a, x) (keys g s') (keys g s) sub (fewer_free s s' stays p) key-there one_less)
+        (sum_less equal equal-tells (open_sets s' p) (open_sets s p) 1 (a, x) (keys g s') (keys g s) sub (fewer_free s s' stays p) key_there one_less)
 
     falls_taken : toil g s' + 1 ≤ toil g s
-    falls_taken = omega (arith, sum_falls, few-news, length-remove s.waiting k c.there, ap length tk.waiting, length-append (remove s.waiting k) news)
+    falls_taken = omega (arith, sum_falls, few_news, length-remove s.waiting k c.there, ap length tk.waiting, length-append (remove s.waiting k) news)
 
   pub falls : toil g s' + 1 ≤ toil g s
   falls = ⊎_elim falls_dropped falls_taken (carried g s k e s' c)
@@ -182,37 +182,37 @@ module _ (g : Setting) (s : State) (a : ℕ) (x : Note) (s' : State) (ct : Chart
   abbrev puts : List Entry
   puts = sent a (row g.chart a) (frame_of a x 0)
 
-  few-puts : length puts ≤ fan_out
-  few-puts = sent-few a (row g.chart a) (frame_of a x 0) (omega (arith, sy.author, g.few)) (not_in (row g.chart a) a (ct.apart a))
+  few_puts : length puts ≤ fan_out
+  few_puts = sent_few a (row g.chart a) (frame_of a x 0) (omega (arith, sy.author, g.few)) (not_in (row g.chart a) a (ct.apart a))
 
-  say-waits : All (λ d. (key_of d ≡ (a, x)) ⊎ Has s.waiting d) s'.waiting
-  say-waits = subst (All (λ d. (key_of d ≡ (a, x)) ⊎ Has s.waiting d)) (sym sy.waiting)
+  say_waits : All (λ d. (key_of d ≡ (a, x)) ⊎ Has s.waiting d) s'.waiting
+  say_waits = subst (All (λ d. (key_of d ≡ (a, x)) ⊎ Has s.waiting d)) (sym sy.waiting)
       (All-append _ s.waiting puts (All-weaker (Has s.waiting) _ (λ d h. inr h) s.waiting (all_has_itself s.waiting))
       (All-weaker _ _ (λ d h. inl h) puts (sent-keys a (row g.chart a) (frame_of a x 0))))
 
   -- at one craft, the key that is new adds what is uncovered for it
-  at-craft : (b : ℕ) → sum_distinct equal (open_sets s' b) (keys g s') ≤ sum_distinct equal (open_sets s b) (keys g s) + open_sets s' b (a, x)
-  at-craft b =
+  at_craft : (b : ℕ) → sum_distinct equal (open_sets s' b) (keys g s') ≤ sum_distinct equal (open_sets s b) (keys g s) + open_sets s' b (a, x)
+  at_craft b =
       let more = sum_mono equal equal-tells (open_sets s' b) (open_sets s' b) (keys g s') ((a, x) ∷ keys g s)
-      (one_more g s s' a a x (0 ∷ []) (said_change g s a x s' ct kp sy) say-waits) (λ j. omega arith) in
-      let rest = sum_mono equal equal-tells (open_sets s' b) (open_sets s b) (keys g s) (keys g s) (λ j h. h) (fewer_free s s' (say-stays g s a x s' ct kp sy) b) in
+      (one_more g s s' a a x (0 ∷ []) (said_change g s a x s' ct kp sy) say_waits) (λ j. omega arith) in
+      let rest = sum_mono equal equal-tells (open_sets s' b) (open_sets s b) (keys g s) (keys g s) (λ j h. h) (fewer_free s s' (say_stays g s a x s' ct kp sy) b) in
       ⊎_elim
       (λ (h : among equal (a, x) (keys g s) ≡ true). omega (arith, more, rest, cond-true {A = ℕ} (among equal (a, x) (keys g s)) 0 (open_sets s' b (a, x)) h))
       (λ (h : among equal (a, x) (keys g s) ≡ false). omega (arith, more, rest, cond-false {A = ℕ} (among equal (a, x) (keys g s)) 0 (open_sets s' b (a, x)) h))
       (cases_Bool (among equal (a, x) (keys g s)))
 
-  own-none : open_sets s' a (a, x) ≡ 0
-  own-none = ap (λ (L : List ℕ). uncovered L label_sets) (said_change g s a x s' ct kp sy).own ∙ uncovered-heard label_sets
+  own_none : open_sets s' a (a, x) ≡ 0
+  own_none = ap (λ (L : List ℕ). uncovered L label_sets) (said_change g s a x s' ct kp sy).own ∙ uncovered-heard label_sets
 
   sum_rises : total (λ b. sum_distinct equal (open_sets s' b) (keys g s')) g.n + label_sets ≤ total (λ b. sum_distinct equal (open_sets s b) (keys g s)) g.n + label_sets * g.n
-  sum_rises = total-more_but (λ b. sum_distinct equal (open_sets s' b) (keys g s')) (λ b. sum_distinct equal (open_sets s b) (keys g s)) g.n a sy.author
-      (λ b _. omega (arith, at-craft b, uncovered-le (held s' b a x) label_sets)) (omega (arith, at-craft a, own-none))
+  sum_rises = total_more_but (λ b. sum_distinct equal (open_sets s' b) (keys g s')) (λ b. sum_distinct equal (open_sets s b) (keys g s)) g.n a sy.author
+      (λ b _. omega (arith, at_craft b, uncovered_le (held s' b a x) label_sets)) (omega (arith, at_craft a, own_none))
 
   pub rises : toil g s' ≤ toil g s + gain
-  rises = omega (arith, sum_rises, few-puts, g.few, ap length sy.waiting, length-append s.waiting puts)
+  rises = omega (arith, sum_rises, few_puts, g.few, ap length sy.waiting, length-append s.waiting puts)
 
 pub toil_falls : ToilFalls
-toil_falls g s s' k e ct r c = falls g s k e s' ct (kept-reached g s ct r) c
+toil_falls g s s' k e ct r c = falls g s k e s' ct (kept_reached g s ct r) c
 
 pub toil_rises : ToilRises
-toil_rises g s s' a x ct r sy = rises g s a x s' ct (kept-reached g s ct r) sy
+toil_rises g s s' a x ct r sy = rises g s a x s' ct (kept_reached g s ct r) sy

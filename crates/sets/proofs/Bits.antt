@@ -57,12 +57,12 @@ pub bit-only : (i : ℕ) → bit (only i) i ≡ 1
 bit-only zero = refl
 bit-only (suc i) = ap (λ (x : ℕ). bit x i) (omega (arith, pow-suc 2 i)) ∙ bit-only i
 
-pub bit-only-other : (i j : ℕ) → (i ≡ j → ⊥) → bit (only i) j ≡ 0
-bit-only-other zero zero ne = absurd (ne refl)
-bit-only-other zero (suc j) ne = bit-zero j
-bit-only-other (suc i) zero ne = omega (arith, pow-suc 2 i)
-bit-only-other (suc i) (suc j) ne =
-    ap (λ (x : ℕ). bit x j) (omega (arith, pow-suc 2 i)) ∙ bit-only-other i j (λ e. ne (ap suc e))
+pub bit-only_other : (i j : ℕ) → (i ≡ j → ⊥) → bit (only i) j ≡ 0
+bit-only_other zero zero ne = absurd (ne refl)
+bit-only_other zero (suc j) ne = bit-zero j
+bit-only_other (suc i) zero ne = omega (arith, pow-suc 2 i)
+bit-only_other (suc i) (suc j) ne =
+    ap (λ (x : ℕ). bit x j) (omega (arith, pow-suc 2 i)) ∙ bit-only_other i j (λ e. ne (ap suc e))
 
 pub bit_below : (n i : ℕ) → i < n → bit (below n) i ≡ 1
 bit_below zero i h = absurd (omega arith)

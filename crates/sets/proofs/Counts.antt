@@ -6,7 +6,7 @@ use lib.Count.{ones, ones_step, ones-le, ones-ones}
 use Rattle.std.proofs.lemmas.Bool.{cases_Bool, cases_lt, cond-true, cond-false}
 use Rattle.sets.specs.Sets.{bit, In, Within, has, union, shared, less, only, one_of, adding, below, count, others}
 use Rattle.sets.proofs.Bits.{and_half, and_odd, or_half, or_odd, less_half, less_odd}
-use Rattle.sets.proofs.Members.{has_in, lacks_bit, has_past, within_by, less_none, shared-only, shared-only-none, less-only-none, one_of-below, one_of_past, adding-same}
+use Rattle.sets.proofs.Members.{has_in, lacks_bit, has_past, within_by, less_none, shared-only, shared-only_none, less-only_none, one_of-below, one_of_past, adding_same}
 
 pub count-zero : count 0 ≡ 0
 unfolding ones
@@ -56,13 +56,13 @@ count-shared n a b ha hb = omega (arith, count-union-shared a b, count-width n (
 
 -- ---- subsets
 
-pub count-within : (a b : ℕ) → Within a b → count a ≤ count b
-count-within =
+pub count_within : (a b : ℕ) → Within a b → count a ≤ count b
+count_within =
     bin_ind (λ (n : ℕ). (b : ℕ) → Within n b → count n ≤ count b) (λ b h. omega (arith, count-zero))
     (λ n ih b h. omega (arith, ih (b / 2) (λ i. h (suc i)), h 0, ones_step n, ones_step b))
 
 pub count_by_members : (a b : ℕ) → ((i : ℕ) → In i a → In i b) → count a ≤ count b
-count_by_members a b h = count-within a b (within_by a b h)
+count_by_members a b h = count_within a b (within_by a b h)
 
 -- the larger set has a member that the smaller lacks
 pub one-outside_smaller : (a b : ℕ) → count b < count a → (i : ℕ) × In i a × (bit b i ≡ 0)
@@ -93,7 +93,7 @@ count_less =
     ))
 
 pub count-adding : (k s : ℕ) → bit s k ≡ 0 → count (adding k s) ≡ count s + 1
-count-adding k s e = omega (arith, count_disjoint s (only k) (shared-only-none s k e), count-only k)
+count-adding k s e = omega (arith, count_disjoint s (only k) (shared-only_none s k e), count-only k)
 
 pub count-less-only : (m i : ℕ) → In i m → count (less m (only i)) + 1 ≡ count m
 count-less-only m i h = omega (arith, count_less m (only i), ap ones (shared-only m i h), count-only i)
@@ -102,7 +102,7 @@ count-less-only m i h = omega (arith, count_less m (only i), ap ones (shared-onl
 pub others-count : (k s : ℕ) → others k s ≡ count (less s (only k))
 others-count k s = ⊎_elim
     (λ (e : has s k ≡ true). omega (arith, cond-true (has s k) (count s - 1) (count s) e, count-less-only s k (has_in s k e)))
-    (λ (e : has s k ≡ false). omega (arith, cond-false (has s k) (count s - 1) (count s) e, ap ones (less-only-none s k (lacks_bit s k e))))
+    (λ (e : has s k ≡ false). omega (arith, cond-false (has s k) (count s - 1) (count s) e, ap ones (less-only_none s k (lacks_bit s k e))))
     (cases_Bool (has s k))
 
 -- the same by labels below n, where a craft past them has no set
@@ -115,8 +115,8 @@ others-one_of n k s h = ⊎_elim
     (cases_lt k n)
 
 -- one more is at most f, where fewer than f others are there
-pub adding-most : (k s f : ℕ) → count s ≤ f → others k s < f → count (adding k s) ≤ f
-adding-most k s f h l = ⊎_elim
-    (λ (e : has s k ≡ true). omega (arith, ap ones (adding-same k s (has_in s k e))))
+pub adding_most : (k s f : ℕ) → count s ≤ f → others k s < f → count (adding k s) ≤ f
+adding_most k s f h l = ⊎_elim
+    (λ (e : has s k ≡ true). omega (arith, ap ones (adding_same k s (has_in s k e))))
     (λ (e : has s k ≡ false). omega (arith, count-adding k s (lacks_bit s k e), cond-false (has s k) (count s - 1) (count s) e))
     (cases_Bool (has s k))

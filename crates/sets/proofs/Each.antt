@@ -13,8 +13,8 @@ use Rattle.sets.proofs.Members.{has_in, lacks_bit}
 use Rattle.sets.proofs.Counts.{count-zero}
 
 -- one label more counts its bit
-count-mod-more : (s k : ℕ) → count (s % 2 ^ suc k) ≡ bit s k + count (s % 2 ^ k)
-count-mod-more s k =
+count_mod_more : (s k : ℕ) → count (s % 2 ^ suc k) ≡ bit s k + count (s % 2 ^ k)
+count_mod_more s k =
     let a : ℕ = s / 2 ^ k % 2 in
     let e : s % 2 ^ suc k ≡ a * 2 ^ k + s % 2 ^ k = ap (λ (x : ℕ). s % 2 ^ x) (omega arith) ∙ mod-pow-add s 1 k in
     let z : a / 2 ≡ 0 = omega arith in
@@ -38,24 +38,24 @@ module _ {X : Type 0} (f : ℕ → X) (s : ℕ) where
   unfolding each
   each_in k h = rw add-one (ap (λ (t : List X). each f s k ++ t) (cond-true (has s k) (f k ∷ []) [] h))
 
-  pub each-out : (k : ℕ) → has s k ≡ false → each f s (k + 1) ≡ each f s k
+  pub each_out : (k : ℕ) → has s k ≡ false → each f s (k + 1) ≡ each f s k
   unfolding each
-  each-out k h =
+  each_out k h =
       rw add-one (ap (λ (t : List X). each f s k ++ t) (cond-false (has s k) (f k ∷ []) [] h) ∙ append-nil (each f s k))
 
   -- ---- how many
 
-  pub length-each-more : (k : ℕ) → length (each f s (k + 1)) ≡ length (each f s k) + bit s k
-  length-each-more k = elim (cases_Bool (has s k)) [
+  pub length-each_more : (k : ℕ) → length (each f s (k + 1)) ≡ length (each f s k) + bit s k
+  length-each_more k = elim (cases_Bool (has s k)) [
     | inl e ↦ omega (arith, ap length (each_in k e), length-append (each f s k) (f k ∷ []), has_in s k e)
-    | inr e ↦ omega (arith, ap length (each-out k e), lacks_bit s k e)
+    | inr e ↦ omega (arith, ap length (each_out k e), lacks_bit s k e)
   ]
 
   pub length-each : (n : ℕ) → length (each f s n) ≡ count (s % 2 ^ n)
   length-each zero =
       let z : s % 2 ^ 0 ≡ 0 = omega arith in
       omega (arith, ap length each_none, ap ones z, count-zero)
-  length-each (suc n) = omega (arith, length-each n, rw add-one at (length-each-more n), count-mod-more s n)
+  length-each (suc n) = omega (arith, length-each n, rw add-one at (length-each_more n), count_mod_more s n)
 
   -- a set within n labels has as many made for it as members
   pub length-each-count : (n : ℕ) → s < 2 ^ n → length (each f s n) ≡ count s
@@ -81,27 +81,27 @@ module _ {X : Type 0} (f : ℕ → X) (s : ℕ) where
       omega (arith, ap length (each_in k h), length-append (each f s k) (f k ∷ []))
 
   -- a set of labels below n has at most n, and fewer where one is left out
-  pub each-most : (n : ℕ) → length (each f s n) ≤ n
+  pub each_most : (n : ℕ) → length (each f s n) ≤ n
   unfolding each
-  each-most zero = omega arith
-  each-most (suc n) =
-      let h : length (each f s n) ≤ n = each-most n in
+  each_most zero = omega arith
+  each_most (suc n) =
+      let h : length (each f s n) ≤ n = each_most n in
       elim (cases_Bool (has s n)) [
         | inl e ↦ omega (arith, ap length (rw add-one at (each_in n e)), length-append (each f s n) (f n ∷ []))
-        | inr e ↦ omega (arith, ap length (rw add-one at (each-out n e)))
+        | inr e ↦ omega (arith, ap length (rw add-one at (each_out n e)))
       ]
 
-  pub each-few : (j n : ℕ) → has s j ≡ false → j < n → length (each f s n) < n
-  each-few j zero h l = absurd (omega arith)
-  each-few j (suc n) h l = elim (cases_eq j n) [
+  pub each_few : (j n : ℕ) → has s j ≡ false → j < n → length (each f s n) < n
+  each_few j zero h l = absurd (omega arith)
+  each_few j (suc n) h l = elim (cases_eq j n) [
     | inl e ↦
         let P : ℕ → Type 0 = λ i. has s i ≡ false in
-        omega (arith, each-most n, ap length (rw add-one at (each-out n (subst P e h))))
+        omega (arith, each_most n, ap length (rw add-one at (each_out n (subst P e h))))
     | inr e ↦
-        let few : length (each f s n) < n = each-few j n h (omega arith) in
+        let few : length (each f s n) < n = each_few j n h (omega arith) in
         elim (cases_Bool (has s n)) [
           | inl e ↦ omega (arith, ap length (rw add-one at (each_in n e)), length-append (each f s n) (f n ∷ []))
-          | inr e ↦ omega (arith, ap length (rw add-one at (each-out n e)))
+          | inr e ↦ omega (arith, ap length (rw add-one at (each_out n e)))
         ]
   ]
 
@@ -128,7 +128,7 @@ module _ {X : Type 0} (f : ℕ → X) (s : ℕ) where
         let there = each-has n k (omega arith) h in
         elim (cases_Bool (has s n)) [
           | inl e ↦ subst (λ (t : List X). Has t (f k)) (sym (rw add-one at (each_in n e))) (has_append_left (each f s n) (f n ∷ []) (f k) there)
-          | inr e ↦ subst (λ (t : List X). Has t (f k)) (sym (rw add-one at (each-out n e))) there
+          | inr e ↦ subst (λ (t : List X). Has t (f k)) (sym (rw add-one at (each_out n e))) there
         ]
   ]
 

@@ -1,12 +1,12 @@
 use Rattle.std.proofs.Common.{◌≡◌, ℕ, ap, ◌∙◌, arith}
 use Rattle.refusals.specs.Refusals.{refusal}
-use Rattle.charts.proofs.TurnLaws.{none-turn, turn_more, turn_at}
+use Rattle.charts.proofs.TurnLaws.{none_turn, turn_more, turn_at}
 use Rattle.cuts.specs.Pairs.{above, in_pairs}
 use Rattle.cuts.specs.Causes.{unlinked_cause}
 use Rattle.cuts.proofs.direct.first_unlinked.Goals as goal
 
 pub loop-u-init : goal.loop-u-init
-loop-u-init c = none-turn _ 0 (λ i l. absurd (omega arith))
+loop-u-init c = none_turn _ 0 (λ i l. absurd (omega arith))
 
 pub returns-in-Some : goal.returns-in-Some
 returns-in-Some c =

@@ -1,13 +1,13 @@
 use Rattle.std.proofs.Common.{◌≡◌, ℕ, ◌-◌, sym, ap, ◌∙◌, arith}
 use Rattle.sets.specs.Sets.{bit, union, less}
 use Rattle.cuts.specs.Reach.{around, rounds, reached}
-use Rattle.cuts.proofs.ReachLaws.{rounds-none, rounds-more, reached_by_walks_lem}
+use Rattle.cuts.proofs.ReachLaws.{rounds_none, rounds_more, reached_by_walks_lem}
 use Rattle.cuts.proofs.reach.reached_by_walks.Goals as goal
 
 pub loop-round-init : goal.loop-round-init
 loop-round-init c =
     c.minus-found.ensures ∙ ap (λ (x : ℕ). less x c.args.avoid) c.craft_alone.ensures
-    ∙ sym (rounds-none c.args.chart.now.n c.args.chart.now.rows c.args.avoid c.args.from)
+    ∙ sym (rounds_none c.args.chart.now.n c.args.chart.now.rows c.args.avoid c.args.from)
 
 pub loop-round-preserved : goal.loop-round-preserved
 loop-round-preserved c =
@@ -16,7 +16,7 @@ loop-round-preserved c =
     c.minus-found-in-loop-round.ensures
     ∙ ap (λ (x : ℕ). less (union c.loop-round.found x) c.args.avoid) c.neighbours_of.ensures
     ∙ ap (λ (x : ℕ). less (union x (around rows x n)) c.args.avoid) c.loop-round.invariant
-    ∙ sym (rounds-more n rows c.args.avoid c.args.from c.loop-round.round)
+    ∙ sym (rounds_more n rows c.args.avoid c.args.from c.loop-round.round)
 
 pub returns : goal.returns
 unfolding reached

@@ -5,7 +5,7 @@ use Rattle.refusals.specs.Refusals.{refusal, told}
 use Rattle.cuts.specs.Pairs.{in_pairs}
 use Rattle.cuts.specs.Causes.{thin_causes, relay_causes}
 use Rattle.cuts.proofs.SizeLaws.{size_asked}
-use Rattle.cuts.proofs.RelayLaws.{relay_passed, relay_refused, refused-not}
+use Rattle.cuts.proofs.RelayLaws.{relay_passed, relay_refused, refused_not}
 use Rattle.cuts.proofs.relay.relay_test.Goals as goal
 
 pub returns-in-Some : goal.returns-in-Some
@@ -20,7 +20,7 @@ returns-in-Some c =
     let why = relay_refused n f rows c.args.chart.bounded (told x) e in
     record {
       answer = (e, why);
-      meaning = (λ h. absurd (both_ways _ refl h), λ h. absurd (refused-not n f rows c.args.chart.bounded (told x) why h));
+      meaning = (λ h. absurd (both_ways _ refl h), λ h. absurd (refused_not n f rows c.args.chart.bounded (told x) why h));
     }
 
 pub invariant_of-result : goal.invariant_of-result

@@ -3,13 +3,13 @@ use Rattle.refusals.specs.Refusals.{refusal}
 use Rattle.cuts.specs.Reach.{parted}
 use Rattle.cuts.specs.Pairs.{above}
 use Rattle.cuts.specs.Causes.{cut_causes, thin_causes, thin_told}
-use Rattle.cuts.proofs.PairLaws.{above-start, above_more, above_at}
+use Rattle.cuts.proofs.PairLaws.{above_start, above_more, above_at}
 use Rattle.cuts.proofs.RelayLaws.{thin_linked, thin_asked}
 use Rattle.cuts.proofs.search.thin_above.Goals as goal
 use Rattle.cuts.proofs.search.thin_above.Goals.{then-not-linked+in_default, else-not-linked}
 
 pub loop-v-init : goal.loop-v-init
-loop-v-init c = above-start (thin_causes c.args.chart.now.n c.args.chart.now.rows c.args.most c.args.u) c.args.u
+loop-v-init c = above_start (thin_causes c.args.chart.now.n c.args.chart.now.rows c.args.most c.args.u) c.args.u
 
 pub returns-in-Some : goal.returns-in-Some
 returns-in-Some c =

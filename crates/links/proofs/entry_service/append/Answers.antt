@@ -1,7 +1,7 @@
 use Rattle.std.proofs.Common.{◌≡◌, ◌<◌, true, List, ◌++◌, length, take, sym, ap, ◌∙◌, arith, rules}
 use Rattle.std.proofs.lemmas.List.{append-nil}
 use Rattle.sets.specs.Sets.{has}
-use Rattle.sets.proofs.Each.{each_none, each-out, each-room, each_written}
+use Rattle.sets.proofs.Each.{each_none, each_out, each-room, each_written}
 use Rattle.links.specs.declared.entries.Entry.{Entry}
 use Rattle.links.specs.Meanings.{entry_to}
 use Rattle.links.proofs.entry_service.append.Goals as goal
@@ -31,6 +31,6 @@ loop-to-preserved c =
           let t = each_written (entry_to c.args.from c.args.frame) c.args.set c.args.list.now c.loop-to.list c.args.at c.loop-to.len c.loop-to.to c.loop-to.invariant.0 c.loop-to.invariant.1 h (omega arith) in
           (cc, cc)
       | else-contains w ↦
-          let e = each-out (entry_to c.args.from c.args.frame) c.args.set c.loop-to.to (cc) in
+          let e = each_out (entry_to c.args.from c.args.frame) c.args.set c.loop-to.to (cc) in
           (cc, cc)
     ]

@@ -5,7 +5,7 @@ use Rattle.sets.proofs.Bits.{bit-zero}
 use Rattle.sets.proofs.Members.{in_positive, one_of-below}
 use Rattle.pathsets.specs.Hitting.{HittableWith}
 use Rattle.pathsets.specs.Keys.{sets_of}
-use Rattle.pathsets.proofs.HittingLaws.{hit_met, hit_stuck, hit_back, hit_on, tried-more}
+use Rattle.pathsets.proofs.HittingLaws.{hit_met, hit_stuck, hit_back, hit_on, tried_more}
 use Rattle.pathsets.proofs.search.+is_hittable_with.Goals as goal
 
 pub returns-in_default : goal.returns-in_default
@@ -37,7 +37,7 @@ loop-craft-preserved t c =
     let one : c.with.result ≡ union c.args.chosen (only i) = c.with.ensures ∙ ap (λ (s : ℕ). union c.args.chosen s) (one_of-below labels i c.in-Some-lowest.ensures.0) in
     let failed : D (union c.args.chosen (only i)) → ⊥ =
     λ d. both_ways c.is_hittable_with.result c.if-is_hittable_with.false (c.is_hittable_with.ensures.1 (subst D (sym one) d)) in
-    let on = tried-more (λ j. D (union c.args.chosen (only j)) → ⊥) c.in-Some.unmet c.loop-craft.left i low.member failed c.loop-craft.invariant.1 in
+    let on = tried_more (λ j. D (union c.args.chosen (only j)) → ⊥) c.in-Some.unmet c.loop-craft.left i low.member failed c.loop-craft.invariant.1 in
     (c.rest-left.type_inv, λ j m z. on j m (ap (λ (s : ℕ). bit s j) (sym (c.rest-left.ensures.members i low)) ∙ z))
 
 pub returns : goal.returns

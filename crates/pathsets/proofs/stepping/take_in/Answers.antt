@@ -6,7 +6,7 @@ use Rattle.shelves.specs.Shelves.{rows_of, room}
 use Rattle.pathsets.specs.Steps.{path, Stepped}
 use Rattle.pathsets.specs.Shelving.{Settles, Takes}
 use Rattle.pathsets.proofs.StepLaws.{fits-tells}
-use Rattle.pathsets.proofs.ShelfSteps.{stepped-covered, stepped-full, stepped-room, room-empty, rows_long, takes_one}
+use Rattle.pathsets.proofs.ShelfSteps.{stepped-covered, stepped-full, stepped-room, room_empty, rows_long, takes_one}
 use Rattle.pathsets.proofs.stepping.take_in.Goals as goal
 
 pub returns-then-covers : goal.returns-then-covers
@@ -46,7 +46,7 @@ returns c =
     let u = path q m.author m.set in
     let then : rows_of c.hold.new.self ≡ holding rs m.author m.note u = held.1 ∙ ap (λ (v : ℕ). holding rs m.author m.note v) is in
     let long : length (holding rs m.author m.note u) ≤ shelf_length = omega (arith, ap length then, rows_long c.hold.new.self, c.hold.new.self.few) in
-    let fresh = room-empty m.author m.note u rs long in
+    let fresh = room_empty m.author m.note u rs long in
     let done = c.pass_on.ensures (subst (λ (r : List Row). room r m.author m.note 0 ≡ true) (sym then) fresh) in
     let settles = subst (λ (v : ℕ). Settles l m.author m.note v (holding rs m.author m.note u) c.pass_on.result (rows_of c.pass_on.new.shelf)) is
     (subst (λ (r : List Row). Settles l m.author m.note c.path_of-path.result r c.pass_on.result (rows_of c.pass_on.new.shelf)) then done) in

@@ -2,12 +2,12 @@ use Rattle.std.proofs.Common.{List, sym, ap, ◌∙◌}
 use Rattle.std.proofs.lemmas.List.{take_all}
 use Rattle.shelves.specs.declared.kinds.Row.{Row}
 use Rattle.shelves.specs.Rows.{covered}
-use Rattle.shelves.proofs.Coverings.{covered-at, covered_more}
+use Rattle.shelves.proofs.Coverings.{covered_at, covered_more}
 use Rattle.shelves.proofs.shelf.one_covers.Goals as goal
 
 pub returns-then-covers_set : goal.returns-then-covers_set
 returns-then-covers_set c =
-    sym (covered-at c.args.author c.args.note.now c.args.set c.args.rows.now c.loop-row.row-index _ c.loop-row-test.true (sym c.if-covers_set.ensures))
+    sym (covered_at c.args.author c.args.note.now c.args.set c.args.rows.now c.loop-row.row-index _ c.loop-row-test.true (sym c.if-covers_set.ensures))
 
 pub loop-row-preserved : goal.loop-row-preserved
 loop-row-preserved c =

@@ -3,7 +3,7 @@ use Rattle.sets.specs.Sets.{labels, only, union}
 use Rattle.sets.proofs.Members.{one_of-below}
 use Rattle.links.specs.Calls.{Appended}
 use Rattle.bases.specs.Parts.{parts, spare_of}
-use Rattle.carriers.specs.Accepted.{judged-meddle, may_meddle}
+use Rattle.carriers.specs.Accepted.{judged_meddle, may_meddle}
 use Rattle.bases.proofs.base.Base.meddle.Goals as goal
 
 pub returns : goal.returns
@@ -13,7 +13,7 @@ returns g c =
     let h = c.args.chart.now in
     let i = c.args.c in
     let to = c.args.to in
-    let ok = judged-meddle h.n c.args.f b.astray i to c.row-row.ensures.answer c.spare-spare.ensures c.in_ok-judge_meddle.ensures in
+    let ok = judged_meddle h.n c.args.f b.astray i to c.row-row.ensures.answer c.spare-spare.ensures c.in_ok-judge_meddle.ensures in
     let may = may_meddle h.n c.args.f (get_or h.rows i 0) b.astray (spare_of (parts m b)) i to ok in
     let one : c.single.result ≡ only to = c.single.ensures ∙ one_of-below labels to (omega (arith, may.other, h.few)) in
     let put = subst (λ (s : ℕ). Appended (m b.links) i s c.args.frame (m c.put.new.self)) one c.in_ok-put.ensures in

@@ -9,7 +9,7 @@ use Rattle.links.specs.Meanings as links
 use Rattle.shelves.specs.Shelves.{fewest}
 use Rattle.shelves.proofs.Hearing.{held_for_sure}
 use Rattle.bases.specs.Parts.{Parts, parts, spare_of, own_frame, SaysOn}
-use Rattle.carriers.specs.Accepted.{judged-say, may_say}
+use Rattle.carriers.specs.Accepted.{judged_say, may_say}
 use Rattle.bases.proofs.base.Base.say.Goals as goal
 
 pub returns-in_err-put : goal.returns-in_err-put
@@ -20,7 +20,7 @@ returns-in_err-put g c =
     let a = c.args.author in
     let p = parts m b in
     let after : Parts = record { links = m c.put.new.self; shelves = b.table.at; astray = b.astray } in
-    let ok = judged-say h.n a c.args.note c.spare-spare.ensures c.in_ok-judge_say.ensures in
+    let ok = judged_say h.n a c.args.note c.spare-spare.ensures c.in_ok-judge_say.ensures in
     let refused = c.in_err-put.ensures in
     let e = err_from_is_err_and c.from_residual-in_err-put.result c.from_residual-in_err-put.ensures.1 in
     subst (λ (r : Result Unit Fault). SaysOn h p a c.args.note r after) (sym e.1) (
@@ -35,7 +35,7 @@ returns g c =
     let h = c.args.chart.now in
     let a = c.args.author in
     let x = c.args.note in
-    let ok = judged-say h.n a x c.spare-spare.ensures c.in_ok-judge_say.ensures in
+    let ok = judged_say h.n a x c.spare-spare.ensures c.in_ok-judge_say.ensures in
     let may = may_say h.n (spare_of (parts m b)) a x ok in
     let new = sym c.if-covers.ensures in
     let put = subst (λ (i : ℕ). Appended (m b.links) a i (own_frame a x) (m c.put.new.self)) c.row-neighbours.ensures.answer c.in_ok-put.ensures in

@@ -3,10 +3,10 @@ use Rattle.std.proofs.lemmas.Bool.{both_ways}
 use Rattle.sets.specs.Sets.{labels}
 use Rattle.shelves.specs.Shelves.{fewest, heard_on}
 use Rattle.carriers.specs.Directs.{means}
-use Rattle.carriers.specs.Accepted.{judged-carry, may_carry}
+use Rattle.carriers.specs.Accepted.{judged_carry, may_carry}
 use Rattle.shelves.proofs.Hearing.{held_for_sure}
-use Rattle.carriers.specs.Straight.{is-straight}
-use Rattle.carriers.specs.Steps.{drop-step, hear-step, told_at, hears_crooked, hears_old, hears-new}
+use Rattle.carriers.specs.Straight.{is_straight_lem}
+use Rattle.carriers.specs.Steps.{drop-step, hear-step, told_at, hears_crooked, hears_old, hears_new}
 use Rattle.carriers.proofs.direct_carrier.DirectCarrier.carry.Goals as goal
 
 pub returns-then-not-is_straight : goal.returns-then-not-is_straight
@@ -16,7 +16,7 @@ returns-then-not-is_straight g c =
     let k = c.args.k in
     let e = c.in_ok-entry.entry in
     let take = c.in_ok-entry.ensures in
-    let ok = judged-carry k c.waiting-waiting.ensures c.spare-spare.ensures c.in_ok-judge_carry.ensures in
+    let ok = judged_carry k c.waiting-waiting.ensures c.spare-spare.ensures c.in_ok-judge_carry.ensures in
     let crooked = sym c.if-not-is_straight.ensures in
     let tells = hears_crooked d.complete.chart.n (heard_on d.table.at) e crooked in
     record {
@@ -34,7 +34,7 @@ returns-then-covers g c =
     let k = c.args.k in
     let e = c.in_ok-entry.entry in
     let take = c.in_ok-entry.ensures in
-    let ok = judged-carry k c.waiting-waiting.ensures c.spare-spare.ensures c.in_ok-judge_carry.ensures in
+    let ok = judged_carry k c.waiting-waiting.ensures c.spare-spare.ensures c.in_ok-judge_carry.ensures in
     let old = sym c.if-covers.ensures in
     let tells = hears_old d.complete.chart.n (heard_on d.table.at) e old in
     record {
@@ -52,12 +52,12 @@ returns g c =
     let k = c.args.k in
     let e = c.in_ok-entry.entry in
     let take = c.in_ok-entry.ensures in
-    let ok = judged-carry k c.waiting-waiting.ensures c.spare-spare.ensures c.in_ok-judge_carry.ensures in
+    let ok = judged_carry k c.waiting-waiting.ensures c.spare-spare.ensures c.in_ok-judge_carry.ensures in
     let may = may_carry (means m d).waiting (means m d).spare k ok in
     let str = sym c.if-not-is_straight.ensures in
-    let st = is-straight d.complete.chart.n e str in
+    let st = is_straight_lem d.complete.chart.n e str in
     let new = sym c.if-covers.ensures in
-    let tells = hears-new d.complete.chart.n (heard_on d.table.at) e str new in
+    let tells = hears_new d.complete.chart.n (heard_on d.table.at) e str new in
     let small : e.to < labels = omega (arith, st.to, d.complete.chart.few) in
     let free : 0 < fewest d.table.at = omega (arith, may.room) in
     let held = held_for_sure d.table.at e.to e.from e.frame.note 0 small free c.hold.result c.hold.new.self.at c.hold.ensures in

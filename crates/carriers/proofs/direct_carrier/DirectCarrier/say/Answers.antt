@@ -6,18 +6,18 @@ use Rattle.sets.specs.Sets.{labels}
 use Rattle.shelves.specs.Shelves.{fewest}
 use Rattle.links.specs.Calls.{Appended}
 use Rattle.carriers.specs.Directs.{means, own_frame, SaysDirect}
-use Rattle.carriers.specs.Accepted.{judged-say, may_say}
+use Rattle.carriers.specs.Accepted.{judged_say, may_say}
 use Rattle.shelves.proofs.Hearing.{held_for_sure}
 use Rattle.carriers.specs.Meshes.{row_is}
 use Rattle.carriers.specs.Straight.{adds_none}
-use Rattle.carriers.specs.Steps.{never, over, say-puts, say-step}
+use Rattle.carriers.specs.Steps.{never, over, say_puts, say_step}
 use Rattle.carriers.proofs.direct_carrier.DirectCarrier.say.Goals as goal
 
 pub returns-then-covers : goal.returns-then-covers
 returns-then-covers g c =
     let d = c.args.self.now in
     let m = g.L.LinkService.meaning in
-    let ok = judged-say d.complete.chart.n c.args.author c.args.note c.spare-spare.ensures c.in_ok-judge_say.ensures in
+    let ok = judged_say d.complete.chart.n c.args.author c.args.note c.spare-spare.ensures c.in_ok-judge_say.ensures in
     let old = sym c.if-covers.ensures in
     record {
       step = λ s. (
@@ -45,11 +45,11 @@ returns-in_err-put g c =
     let a = c.args.author in
     let x = c.args.note in
     let d' = over m d c.put.new.self d.table in
-    let ok = judged-say d.complete.chart.n a x c.spare-spare.ensures c.in_ok-judge_say.ensures in
+    let ok = judged_say d.complete.chart.n a x c.spare-spare.ensures c.in_ok-judge_say.ensures in
     let refused = c.in_err-put.ensures in
     let p = err_from_is_err_and c.from_residual-in_err-put.result c.from_residual-in_err-put.ensures.1 in
     record {
-      step = λ s. never _ _ (say-puts m d s a x ok c.row-neighbours.result (c.row-neighbours.ensures.answer ∙ row_is d.complete.chart a)) refused.0;
+      step = λ s. never _ _ (say_puts m d s a x ok c.row-neighbours.result (c.row-neighbours.ensures.answer ∙ row_is d.complete.chart a)) refused.0;
       fixed = record { n = refl; f = refl; chart = refl };
       exact = subst (λ (r : Result Unit Fault). SaysDirect m d a x r d') (sym p.1) (record { links = refused.1; table = refl; complete = refl; astray = refl });
     }
@@ -60,7 +60,7 @@ returns g c =
     let m = g.L.LinkService.meaning in
     let a = c.args.author in
     let x = c.args.note in
-    let ok = judged-say d.complete.chart.n a x c.spare-spare.ensures c.in_ok-judge_say.ensures in
+    let ok = judged_say d.complete.chart.n a x c.spare-spare.ensures c.in_ok-judge_say.ensures in
     let may = may_say d.complete.chart.n (means m d).spare a x ok in
     let new = sym c.if-covers.ensures in
     let put = subst (λ (i : ℕ). Appended (m d.links) a i (own_frame a x) (m c.put.new.self))
@@ -69,7 +69,7 @@ returns g c =
     let free : 0 < fewest d.table.at = omega (arith, may.room) in
     let held = held_for_sure d.table.at a a x 0 small free c.hold.result c.hold.new.self.at c.hold.ensures in
     record {
-      step = λ s. let r = say-step m d s c.put.new.self c.hold.new.self a x ok new put held in ((ok, r.0), r.1);
+      step = λ s. let r = say_step m d s c.put.new.self c.hold.new.self a x ok new put held in ((ok, r.0), r.1);
       fixed = record { n = refl; f = refl; chart = refl };
       exact = (λ e. absurd (both_ways _ new e), λ e. record { put = put; held = held; complete = refl; astray = refl });
     }

@@ -1,7 +1,7 @@
 use Rattle.std.proofs.Common.{◌≡◌, ℕ, get_or, ap, ◌∙◌}
 use Rattle.std.proofs.lemmas.Bool.Decides.{Decides-at}
 use Rattle.sets.specs.Sets.{has}
-use Rattle.sets.proofs.Members.{has-decides}
+use Rattle.sets.proofs.Members.{has_decides}
 use Rattle.charts.proofs.RowLaws.{linked-below, linked_both}
 use Rattle.charts.proofs.chart.Chart.linked.Goals as goal
 
@@ -11,7 +11,7 @@ returns c =
     let a = c.args.a in
     let b = c.args.b in
     let e : c.contains.result ≡ has (get_or self.rows a 0) b = c.contains.ensures ∙ ap (λ (s : ℕ). has s b) c.row.ensures.answer in
-    let d = Decides-at c.contains.result (has (get_or self.rows a 0) b) e (has-decides (get_or self.rows a 0) b) in
+    let d = Decides-at c.contains.result (has (get_or self.rows a 0) b) e (has_decides (get_or self.rows a 0) b) in
     record {
       answer = e;
       meaning = d;

@@ -1,7 +1,7 @@
 use Rattle.std.proofs.Common.{◌≡◌, ℕ, ◌/◌, ◌<◌, length, take, refl, ap, arith}
 use Rattle.std.proofs.lemmas.List.{length-take}
 use Rattle.std.proofs.lemmas.Result.{err_from_is_err_and}
-use Rattle.sets.proofs.Each.{each-few}
+use Rattle.sets.proofs.Each.{each_few}
 use Rattle.links.specs.EntryLists.{fan_out}
 use Rattle.links.specs.Meanings.{entry_to}
 use Rattle.links.proofs.Judged.{accepted}
@@ -15,12 +15,12 @@ returns-in_err-judge_put c =
 pub append-end-requires : goal.append-end-requires
 append-end-requires c =
     let a = accepted c.rows_of.result.now c.spare-spare.result c.args.from c.args.set c.in_ok-judge_put.ensures in
-    omega (arith, each-few (entry_to c.args.from c.args.frame) c.args.set c.args.from 8 a.0.apart (omega arith))
+    omega (arith, each_few (entry_to c.args.from c.args.frame) c.args.set c.args.from 8 a.0.apart (omega arith))
 
 pub returns : goal.returns
 returns c =
     let a = accepted c.rows_of.result.now c.spare-spare.result c.args.from c.args.set c.in_ok-judge_put.ensures in
-    let few = each-few (entry_to c.args.from c.args.frame) c.args.set c.args.from 8 a.0.apart (omega arith) in
+    let few = each_few (entry_to c.args.from c.args.frame) c.args.set c.args.from 8 a.0.apart (omega arith) in
     record {
       accepted = rw (c.spare-spare.ensures, c.rows_of.ensures.rows) at c.in_ok-judge_put.ensures;
       waiting = c.append-end.ensures.items;

@@ -1,7 +1,7 @@
 use Rattle.std.proofs.Common.{◌≡◌, ℕ, ◌/◌, ◌%◌, [], ◌∷◌, get_or, sym, refl, ap, ◌∙◌, arith, rules}
 use Rattle.matter.specs.Layouts.{top, numbered}
 use Rattle.matter.specs.Kinds.{observation, observed}
-use Rattle.matter.specs.LayoutsLemmas.{made-read}
+use Rattle.matter.specs.LayoutsLemmas.{made_read}
 use Rattle.matter.proofs.Words.{places, top_byte}
 use Rattle.matter.proofs.observations.ObservationMatter.of_word.Goals as goal
 
@@ -15,4 +15,4 @@ returns c =
     let mode : c.args.word / 1 % 256 ≡ get_or c.to_be_bytes.result 7 0 = omega arith in
     let number : top c.args.word ≡ observation.number = t ∙ sym b.at0 ∙ omega arith in
     let found = ap (λ (n : ℕ). numbered (observation ∷ []) n) number in
-    made-read (observation ∷ []) observation (λ _. observation) observed c.args.word (c.from_be_bytes-target.result ∷ c.from_be_bytes-start.result ∷ get_or c.to_be_bytes.result 6 0 ∷ get_or c.to_be_bytes.result 7 0 ∷ []) c.new.result (λ m. refl) found (cc) c.new.ensures
+    made_read (observation ∷ []) observation (λ _. observation) observed c.args.word (c.from_be_bytes-target.result ∷ c.from_be_bytes-start.result ∷ get_or c.to_be_bytes.result 6 0 ∷ get_or c.to_be_bytes.result 7 0 ∷ []) c.new.result (λ m. refl) found (cc) c.new.ensures

@@ -3,7 +3,7 @@ use mathlib.Core.Logic.{∥∥₁_map}
 use Rattle.std.proofs.ByRecursion.{All-push}
 use Rattle.std.proofs.lemmas.List.{length-set, take_more_set, flat_map_more}
 use Rattle.std.proofs.lemmas.Bool.{eqb-false}
-use Rattle.sets.proofs.Removed.{each-some}
+use Rattle.sets.proofs.Removed.{each_some}
 use Rattle.links.specs.Meanings.{entry_to}
 use Rattle.links.proofs.Judged.{accepted}
 use Rattle.putlog.specs.declared.puts.LoggedPut.{LoggedPut}
@@ -16,13 +16,13 @@ invariant_of-self-2 c =
     let at = c.args.self.now.used in
     let puts = c.args.self.now.puts in
     let p : LoggedPut = record { frame = c.args.frame; from = c.args.from; to = c.args.set } in
-    let some : 0 < length (entries_of p) = each-some (entry_to c.args.from c.args.frame) c.args.set 8 (omega arith) (eqb-false c.args.set 0 a.0.some) in
+    let some : 0 < length (entries_of p) = each_some (entry_to c.args.from c.args.frame) c.args.set 8 (omega arith) (eqb-false c.args.set 0 a.0.some) in
     record {
       sized = length-set puts at p ∙ c.args.self.now.sized;
       within = omega arith;
       unspent =
           ∥∥₁_map c.args.self.now.unspent (λ o.
-              subst (λ (l : List LoggedPut). Open l) (sym (take_more_set puts at p (omega arith))) (All-push (λ (q : LoggedPut). 0 < length (entries_of q)) (take at puts) p o some));
+          subst (λ (l : List LoggedPut). Open l) (sym (take_more_set puts at p (omega arith))) (All-push (λ (q : LoggedPut). 0 < length (entries_of q)) (take at puts) p o some));
     }
 
 pub returns : goal.returns

@@ -26,7 +26,7 @@ invariant_of-self c =
       within = omega (arith, length-take (used - 0) puts, s.ensures.left, c.args.self.now.within);
       unspent =
           ∥∥₁_map c.args.self.now.unspent (λ o.
-              subst (λ (l : List LoggedPut). Open l) (sym same) (s.ensures.unspent (subst (λ (l : List LoggedPut). Open l) (sym (whole puts used)) o)));
+          subst (λ (l : List LoggedPut). Open l) (sym same) (s.ensures.unspent (subst (λ (l : List LoggedPut). Open l) (sym (whole puts used)) o)));
     }
 
 pub returns : goal.returns
