@@ -7,10 +7,9 @@
 --   spoken           saying the notes of a turn has that effect
 use Rattle.std.proofs.Common.{◌≡◌, ℕ, ◌+◌, ◌*◌, ◌≤◌, Bool, true, false, cond, eqb, ◌⊎◌, [], ◌∷◌, ◌++◌, sym, refl, ap, ◌∙◌, subst, inl, inr, ⊎_elim, arith}
 use Rattle.std.proofs.lemmas.Bool.{or_cases, or_left, or_right, and_parts, and_from, eqb-true, eq-eqb, true≢false}
-use Rattle.frames.specs.declared.notes.Step.{Step}
-use Rattle.frames.specs.declared.notes.Step.TheVariants.{Send, Echo, Ready}
+use Rattle.frames.specs.declared.notes.Step.TheVariants.{Echo, Ready}
 use Rattle.frames.specs.declared.notes.Note.{Note}
-use Rattle.frames.specs.Notes.{step_byte, note, same_note}
+use Rattle.frames.specs.Notes.{note}
 use Rattle.frames.proofs.NoteLaws.{same_note_eq, same_note_self}
 use Rattle.agreement.specs.Meanings.{Meaning}
 use Rattle.agreement.specs.Carrying.{Adds, Said, Fixed}

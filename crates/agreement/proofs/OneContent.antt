@@ -8,7 +8,7 @@
 --   got                 what a craft got was delivered to it
 --   not_astray_honest   a craft that never meddled is not astray
 --   one_content         part (a)
-use Rattle.std.proofs.Common.{◌≡◌, ℕ, true, ◌⊎◌, List, Some, ⊎_elim, arith}
+use Rattle.std.proofs.Common.{◌≡◌, ℕ, true, List, Some, ⊎_elim, arith}
 use Rattle.sets.proofs.Counts.{one_outside}
 use Rattle.sets.proofs.Passing.{one_passes_outside}
 use Rattle.sets.proofs.Quorums.{quorum_witness}

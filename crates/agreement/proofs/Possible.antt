@@ -4,13 +4,13 @@
 --   Rested        a run with the order in it, by nobody astray, after which nothing waits
 --   until_rest    there is one: carries follow until nothing waits, which comes since the toil falls
 --   possible      what was ordered was delivered to all
-use Rattle.std.proofs.Common.{◌≡◌, ℕ, zero, suc, ◌+◌, ◌<◌, ◌≤◌, Bool, true, false, not, ◌&&◌, ◌||◌, eqb, ltb, leb, ◌⊎◌, List, [], ◌∷◌, length, None, refl, inl, inr, ⊎_elim, arith}
+use Rattle.std.proofs.Common.{◌≡◌, ℕ, zero, suc, ◌+◌, ◌<◌, ◌≤◌, Bool, true, false, not, ◌&&◌, ◌||◌, eqb, ltb, leb, List, [], ◌∷◌, length, None, refl, inl, inr, ⊎_elim, arith}
 use Rattle.std.proofs.lemmas.Bool.{cases_lt, lt-leb, le-ltb, lt-ltb, le-leb, and_parts, and_from, or_right, eq-eqb, ltb-true, leb-true}
 use Rattle.refusals.specs.Refusals.{cause}
 use Rattle.matter.specs.Layouts.{Kind, word_refusal}
 use Rattle.frames.specs.declared.notes.Step.TheVariants.{Send}
 use Rattle.frames.specs.Notes.{is_send, sound, note}
-use Rattle.agreement.specs.Flights.{State, Ledger, Event, ordered, moved, heard, booked, order, Accepted, Answered, turn, telling, word_cause, tight, causes, flight_toil}
+use Rattle.agreement.specs.Flights.{State, Ledger, Event, ordered, moved, heard, order, Accepted, Answered, turn, telling, word_cause, tight, causes, flight_toil}
 use Rattle.agreement.specs.Runs.{Run, still, then, Ordered, Astray, Misleads, Carry, accepted}
 use Rattle.agreement.specs.Lives.{state}
 use Rattle.agreement.specs.Possible.{Arrives, Possible}

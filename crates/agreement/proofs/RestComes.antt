@@ -6,14 +6,14 @@
 --                 an accepted carry lowers the toil by 1 at least: what is said then costs at most g each, and was paid for
 --   carry_falls   every carry, accepted or refused
 --   rest_comes    part (c)
-use Rattle.std.proofs.Common.{◌≡◌, ℕ, ◌+◌, ◌-◌, ◌*◌, ◌<◌, ◌≤◌, Bool, true, false, ltb, leb, ◌⊎◌, List, Option, sym, refl, ap, ◌∙◌, subst, ⊎_elim, mul-le-mul_left, arith}
+use Rattle.std.proofs.Common.{◌≡◌, ℕ, ◌+◌, ◌-◌, ◌*◌, ◌<◌, ◌≤◌, Bool, true, false, ltb, leb, List, Option, sym, refl, ap, ◌∙◌, subst, ⊎_elim, mul-le-mul_left, arith}
 use mathlib.Core.Path.{subst₃}
 use Rattle.std.proofs.lemmas.Bool.{cases_Bool, cond-true, cond-false, and_parts, not-true, ltb-true, leb-true, both_ways, true≢false}
 use Rattle.matter.specs.Layouts.{Kind}
 use Rattle.frames.specs.declared.notes.Step.{Step}
 use Rattle.frames.specs.declared.notes.Step.TheVariants.{Send, Echo, Ready}
 use Rattle.frames.specs.declared.notes.Note.{Note}
-use Rattle.frames.specs.Notes.{last_number, sound, is_send}
+use Rattle.frames.specs.Notes.{last_number, is_send}
 use Rattle.agreement.specs.Votes.{Tally, present, first, hear, says_echo, echo_after, ready_heard, ready_due, says_ready, ready_after}
 use Rattle.agreement.specs.Flights.{State, Ledger, Delivery, Event, ordered, moved, heard, meddled, collected, booked, returned, refused, Answered, Hearing, Moving, here, turn, flag, sum, numbers, votes_said, total_said, flight_toil}
 use Rattle.agreement.specs.Runs.{Run, still, then, Carry, Carries, accepted, accepted_in}

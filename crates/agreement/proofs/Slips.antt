@@ -3,7 +3,7 @@
 --   slips_step    every call keeps that
 --   slips_open    it holds at an opening
 --   slip_word     so in every run
-use Rattle.std.proofs.Common.{◌≡◌, ℕ, true, ◌⊎◌, List, Some, sym, refl, ap, ◌∙◌, ⊎_elim}
+use Rattle.std.proofs.Common.{◌≡◌, ℕ, true, List, Some, sym, refl, ap, ◌∙◌, ⊎_elim}
 use mathlib.Core.Path.{subst₃}
 use Rattle.std.proofs.lemmas.Bool.{or_cases, and_parts, both_ways, true≢false}
 use Rattle.matter.specs.Layouts.{Kind}

@@ -1,6 +1,6 @@
 -- The direct carrier as it is opened, over any link service. Assumes nothing.
 --   opened   a started link service and empty shelves make a carrier that nothing was done with
-use Rattle.std.proofs.Common.{◌≡◌, ℕ, ◌≤◌, min, Bool, true, false, List, [], length, sym, refl, ap, ◌∙◌, subst, arith}
+use Rattle.std.proofs.Common.{◌≡◌, ℕ, ◌≤◌, min, Bool, false, List, [], length, sym, refl, ap, subst, arith}
 use Rattle.std.proofs.lemmas.Bool.{both_ways, ltb-false}
 use Rattle.refusals.proofs.FirstCause.{passed}
 use Rattle.frames.specs.declared.notes.Note.{Note}

@@ -7,8 +7,8 @@
 --   over          the carrier with another state of the link service and other shelves
 --   say-puts, say-step; drop-step, hear-step; meddle-puts, meddle-step
 --                 a put that the link service takes for sure, and what each call leaves
-use Rattle.std.specs.Prelude.{◌≡◌, ℕ, ◌+◌, ◌<◌, ◌≤◌, min, Bool, true, false, ◌⊎◌, List, [], ◌∷◌, ◌++◌, length, Some, None, Option, slice_index, slice_index_or, refl}
-use Rattle.std.proofs.Common.{sym, ap, subst, ◌∙◌, inl, inr, ⊎_elim, arith}
+use Rattle.std.specs.Prelude.{◌≡◌, ℕ, ◌+◌, ◌<◌, ◌≤◌, min, Bool, true, false, List, length, Some, None, Option, slice_index, slice_index_or, refl}
+use Rattle.std.proofs.Common.{sym, ap, subst, ◌∙◌, ⊎_elim, arith}
 use Rattle.std.specs.List.{remove, ContainsAt as Has}
 use Rattle.std.proofs.lemmas.List.Edits.{length-remove}
 use Rattle.std.proofs.lemmas.List.{length-append, get_or_default}
@@ -20,7 +20,6 @@ use Rattle.refusals.specs.Refusals.{refusal}
 use Rattle.refusals.proofs.FirstCause.{passed}
 use Rattle.frames.specs.declared.notes.Note.{Note}
 use Rattle.frames.specs.declared.notes.Frame.{Frame}
-use Rattle.frames.specs.Notes.{sound}
 use Rattle.links.specs.declared.entries.Entry.{Entry}
 use Rattle.links.specs.Meanings as links
 use Rattle.links.specs.Meanings.{entry_to, sent}
@@ -28,16 +27,16 @@ use Rattle.links.specs.Calls.{Appended, Taken, put_causes, take_causes}
 use Rattle.links.proofs.Judged.{accepts}
 use Rattle.shelves.specs.declared.kinds.Table.{Table}
 use Rattle.shelves.specs.Shelves.{fewest, HeldAt, heard_on}
-use Rattle.agreement.specs.Meanings.{Meaning, Lawful}
-use Rattle.agreement.specs.Carrying.{Fixed, Said, Quiet, Hears, Meddled}
+use Rattle.agreement.specs.Meanings.{Lawful}
+use Rattle.agreement.specs.Carrying.{Said, Quiet, Hears, Meddled}
 use Rattle.carriers.specs.declared.heard.Heard.{Heard}
 use Rattle.carriers.specs.declared.direct.Direct.{Direct}
 use Rattle.carriers.specs.Judging.{saying_causes, meddling_causes}
 use Rattle.carriers.specs.Directs.{rows_of_chart, means, own_frame, straight, heard_of, hearing, hearing_of, no_entry, Flows, Sound}
 use Rattle.shelves.proofs.Hearing.{heard-held}
-use Rattle.carriers.specs.Meshes.{Meshed, meshed, not_own, neighbour}
+use Rattle.carriers.specs.Meshes.{meshed, not_own, neighbour}
 use Rattle.carriers.specs.Accepted.{may_say, may_meddle}
-use Rattle.carriers.specs.Straight.{Straight, is_straight_lem, flows_say, flows_drop, flows_hear, flows_meddle}
+use Rattle.carriers.specs.Straight.{is_straight_lem, flows_say, flows_drop, flows_hear, flows_meddle}
 
 pub never : {X : Type 0} {Y : Type 0} (o : Option X) (x : X) → o ≡ None → o ≡ Some x → Y
 never o x p q = absurd (let z : ◌≡◌ {A = ℕ} 0 1 = cc in omega arith)

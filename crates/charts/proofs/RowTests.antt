@@ -3,7 +3,7 @@
 --   decides_answered   the test that who is named names back
 --   answered_none, answered_more, answered-not   the same, one craft after the other
 --   decides_right      the test of a row
-use Rattle.std.proofs.Common.{◌≡◌, ℕ, ◌+◌, ◌-◌, ◌*◌, ◌<◌, ◌≤◌, Bool, true, false, not, ◌||◌, leb, List, get_or, Decides, refl, subst, ⊎_elim, arith, pow_pos, below_more}
+use Rattle.std.proofs.Common.{◌≡◌, ℕ, ◌+◌, ◌*◌, ◌<◌, ◌≤◌, Bool, true, false, not, ◌||◌, leb, List, get_or, Decides, refl, subst, ⊎_elim, arith, pow_pos, below_more}
 use Rattle.std.proofs.lemmas.Bool.Decides.{Decides-and, Decides-not, Decides-like, Decides-ltb, Decides-below_and, not_from_Decides}
 use Rattle.std.proofs.lemmas.Bool.{cases_Bool, leb-true, le-leb, both_ways, not-true, not_from_false, or_left, or_right, or_cases}
 use Rattle.sets.specs.Sets.{Within, has, below, labels}

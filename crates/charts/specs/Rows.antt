@@ -9,7 +9,7 @@
 --   padded       rows, and empty rows after them, one row for each label in all
 --   answered     whether each craft below k that row i names, names i
 --   right        whether row i names rightly among n craft
-use Rattle.std.specs.Prelude.{◌≡◌, ℕ, zero, suc, ◌-◌, ◌<◌, Bool, true, not, ◌&&◌, ◌||◌, List, ◌++◌, length, replicate, ◌≢◌, slice_index}
+use Rattle.std.specs.Prelude.{ℕ, zero, suc, ◌-◌, ◌<◌, Bool, true, not, ◌&&◌, ◌||◌, List, ◌++◌, length, replicate, ◌≢◌, slice_index}
 use Rattle.sets.specs.Sets.{labels, In, has, inside, below}
 
 abbrev pub Linked : List ℕ → ℕ → ℕ → Type 0

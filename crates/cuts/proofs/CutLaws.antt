@@ -7,17 +7,17 @@
 --   all_but_low, all_but_high, in_all_but, all_but_lt   who is of the others
 --   all_but_code    the others as the code takes them
 --   cut_unlinked    a set of others never parts linked craft
-use Rattle.std.proofs.Common.{◌≡◌, ℕ, ◌-◌, ◌^◌, ◌<◌, ◌≤◌, min, Bool, true, false, leb, List, Some, None, Decides, sym, ap, ◌∙◌, subst, ⊎_elim, arith, pow_pos}
+use Rattle.std.proofs.Common.{◌≡◌, ℕ, ◌-◌, ◌^◌, ◌<◌, ◌≤◌, min, Bool, true, false, leb, List, Some, None, Decides, ap, ◌∙◌, ⊎_elim, arith, pow_pos}
 use Rattle.std.proofs.lemmas.Bool.{cases_Bool, cond-true, cond-false, leb-true, le-leb}
 use Rattle.std.proofs.lemmas.Bool.Decides.{Decides-and, Decides-like, not_from_Decides}
-use Rattle.sets.specs.Sets.{labels, bit, In, Within, less, only, one_of, below, count}
+use Rattle.sets.specs.Sets.{labels, bit, In, less, only, one_of, below, count}
 use Rattle.sets.proofs.Bits.{bit_le, bit-less, bit-only, bit-only_other, bit_below}
-use Rattle.sets.proofs.Members.{inside_decides, within_lt, less_within, one_of-below}
+use Rattle.sets.proofs.Members.{inside_decides, within_lt, one_of-below}
 use Rattle.refusals.specs.Refusals.{Told, refusal}
 use Rattle.refusals.proofs.FirstCause.{passed}
 use Rattle.charts.specs.Rows.{Linked}
 use Rattle.charts.proofs.TurnLaws.{some_none, turn_none, none_turn, turn_some}
-use Rattle.cuts.specs.Walks.{Out, Walk, here, on, Parts}
+use Rattle.cuts.specs.Walks.{Out, here, on, Parts}
 use Rattle.cuts.specs.Cuts.{Cut, cuts, all_but}
 use Rattle.cuts.specs.Causes.{thin_told, cut_cause, cut_causes}
 

@@ -1,10 +1,10 @@
 -- Opening on given rows, in its two steps. Assumes nothing.
 --   relay_uncharted, direct_uncharted   rows that make no chart are refused for that
 --   relay_opened, direct_opened   the chart of the rows, tested
-use Rattle.std.proofs.Common.{◌≡◌, ℕ, ◌*◌, ◌⊎◌, List, [], ◌∷◌, ◌++◌, length, Some, None, Ok, Err, Option, Result, sym, refl, ap, ◌∙◌, subst, inl, inr, ⊎_elim}
+use Rattle.std.proofs.Common.{◌≡◌, ℕ, ◌*◌, ◌⊎◌, List, ◌∷◌, ◌++◌, length, Some, None, Ok, Err, Result, sym, ap, ◌∙◌, subst, inl, inr, ⊎_elim}
 use Rattle.std.proofs.lemmas.Bool.{lt-ltb}
 use Rattle.refusals.specs.declared.Fault.{Fault}
-use Rattle.refusals.specs.Refusals.{Cause, Told, refusal, told}
+use Rattle.refusals.specs.Refusals.{Cause, refusal, told}
 use Rattle.charts.specs.declared.chart.Chart.{Chart}
 use Rattle.charts.specs.Rows.{Bounded, padded}
 use Rattle.charts.specs.Causes.{WrongSize, WrongRow, chart_causes}
@@ -15,7 +15,7 @@ use Rattle.charts.proofs.Padding.{getD_padded}
 use Rattle.cuts.specs.declared.passed.PassedChart.{PassedChart}
 use Rattle.cuts.specs.declared.complete.CompleteChart.{CompleteChart}
 use Rattle.cuts.specs.Pairs.{in_pairs}
-use Rattle.cuts.specs.Causes.{size_cause, thin_causes, unlinked_cause, relay_causes, direct_causes, open_relay_causes, open_direct_causes}
+use Rattle.cuts.specs.Causes.{size_cause, thin_causes, unlinked_cause, relay_causes, direct_causes}
 use Rattle.cuts.specs.Tested.{RelayTested, DirectTested, RelayOpened, DirectOpened}
 use Rattle.cuts.proofs.SizeLaws.{size_asked}
 use Rattle.cuts.proofs.SameRows.{pairs_same, thin_same, unlinked_same}

@@ -3,10 +3,9 @@
 --   above_none, above_some   where none is answered above u, and where one is
 --   pairs_none, pairs_some   the same over all pairs, with those before
 --   before_cases             of two pairs one comes before the other, or they are the same
-use Rattle.std.proofs.Common.{◌≡◌, ℕ, ◌+◌, ◌<◌, ◌≤◌, Bool, true, false, cond, ltb, ◌⊎◌, List, [], Some, None, sym, refl, ap, ◌∙◌, inl, inr, ⊎_elim, arith}
+use Rattle.std.proofs.Common.{◌≡◌, ℕ, ◌+◌, ◌<◌, Bool, true, false, cond, ltb, ◌⊎◌, List, [], Some, None, sym, refl, ap, ◌∙◌, inl, inr, ⊎_elim, arith}
 use Rattle.std.proofs.lemmas.Bool.{cases_order, cond-true, cond-false, ltb-true, lt-ltb, le-ltb}
 use Rattle.refusals.specs.Refusals.{Cause, Told, refusal}
-use Rattle.charts.specs.InTurn.{in_turn}
 use Rattle.charts.proofs.TurnLaws.{some_none, turn_none, none_turn, turn_more, turn_at, turn_some}
 use Rattle.cuts.specs.Pairs.{Before, above, in_pairs}
 

@@ -4,12 +4,12 @@
 use Rattle.std.proofs.Common.{◌≡◌, ℕ, ◌*◌, ◌<◌, ◌≤◌, List, subst, ⊎_elim, arith}
 use Rattle.std.proofs.lemmas.Bool.{cases_eq, cases_order, cases_Bool}
 use Rattle.std.proofs.lemmas.Bool.Decides.{not_from_Decides}
-use Rattle.sets.specs.Sets.{bit, In, has, shared, count}
+use Rattle.sets.specs.Sets.{has, shared, count}
 use Rattle.sets.proofs.Bits.{bit_le, bit-shared}
 use Rattle.sets.proofs.Members.{shared_within_left, shared_within_right}
 use Rattle.sets.proofs.Counts.{count_within}
 use Rattle.charts.specs.Rows.{Bounded, Mutual}
-use Rattle.cuts.specs.Walks.{Out, Walk, here, Joined}
+use Rattle.cuts.specs.Walks.{Out, Walk, here}
 use Rattle.cuts.specs.Reach.{reached}
 use Rattle.cuts.specs.Cuts.{Passed, all_but}
 use Rattle.cuts.specs.Complete.{Complete}

@@ -6,12 +6,12 @@
 --   rounds_joined    what is reached is at the end of a walk
 --   walk_rounds      what is at the end of a walk is reached
 --   reached_by_walks_lem, decides_reached, decides_parted   the closure and the test of it are exact
-use Rattle.std.proofs.Common.{◌≡◌, ℕ, zero, suc, ◌+◌, ◌-◌, ◌^◌, ◌<◌, ◌≤◌, Bool, true, false, cond, not, ◌⊎◌, List, get_or, Decides, sym, refl, ap, ◌∙◌, subst, inl, inr, ⊎_elim, add-one, arith, pow_pos}
+use Rattle.std.proofs.Common.{◌≡◌, ℕ, zero, suc, ◌+◌, ◌-◌, ◌<◌, ◌≤◌, true, false, cond, ◌⊎◌, List, get_or, Decides, sym, refl, ap, ◌∙◌, subst, inl, inr, ⊎_elim, add-one, arith, pow_pos}
 use lib.Bits.{or_zero_r}
 use Rattle.std.proofs.lemmas.Bool.{cases_lt, cases_eq, cond-true, cond-false}
 use Rattle.std.proofs.lemmas.Bool.Decides.{Decides-like, Decides-not}
 use Rattle.sets.specs.Sets.{bit, In, Within, has, union, less, only, one_of, adding, below, count}
-use Rattle.sets.proofs.Bits.{bit_le, bit-zero, bit-only, bit_below}
+use Rattle.sets.proofs.Bits.{bit-zero, bit-only, bit_below}
 use Rattle.sets.proofs.Members.{in_has, bit_lacks, cases_in, has_decides, same_members, within_by, within_in, within_lt, union_within, union_within_left, union_within_right, union_in, less_in, in_less, only_in, only_within, one_of-below, one_of_past}
 use Rattle.sets.proofs.Counts.{count-only, count-width, count_within, count-adding}
 use Rattle.charts.specs.Rows.{Linked, Bounded}

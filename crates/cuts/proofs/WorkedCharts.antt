@@ -1,7 +1,7 @@
 -- The worked examples, by computing. Assumes nothing.
-use Rattle.std.proofs.Common.{◌≡◌, ℕ, ◌*◌, List, length, Some, None, Option, refl, ◌∙◌}
+use Rattle.std.proofs.Common.{◌≡◌, ℕ, List, length, Some, None, refl, ◌∙◌}
 use lib.Count.{ones}
-use Rattle.refusals.specs.Refusals.{Told, refusal}
+use Rattle.refusals.specs.Refusals.{refusal}
 use Rattle.charts.specs.InTurn.{in_turn}
 use Rattle.charts.specs.Rows.{Bounded, answered}
 use Rattle.charts.specs.Causes.{chart_causes}

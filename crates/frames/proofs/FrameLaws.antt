@@ -3,19 +3,18 @@
 --   same_frame       frames with the same content and the same bytes are one
 --   frame_read       what the reader took apart, as a frame, has the bytes that were read
 --   reads_back       what reads the bytes of a frame answers that frame
-use Rattle.std.proofs.Common.{◌≡◌, ℕ, suc, ◌+◌, ◌^◌, ◌<◌, true, false, eqb, List, [], ◌∷◌, length, get_or, drop, Some, None, Ok, Err, Result, sym, refl, ap, ◌∙◌, arith}
+use Rattle.std.proofs.Common.{◌≡◌, ℕ, suc, ◌^◌, ◌<◌, List, length, get_or, drop, None, Ok, Err, Result, sym, refl, ap, ◌∙◌, arith}
 use Rattle.std.proofs.lemmas.Bool.{and_parts, eqb-true, not-false, eq-eqb, not_from_true, cond-false}
 use Rattle.refusals.specs.declared.Fault.{Fault}
 use Rattle.frames.specs.declared.notes.Step as steps
 use Rattle.frames.specs.declared.notes.Step.TheVariants as step
-use Rattle.frames.specs.declared.notes.Note.{Note}
 use Rattle.frames.specs.declared.notes.Frame.{Frame}
 use Rattle.frames.specs.declared.received.Head.{Head}
 use Rattle.frames.specs.declared.received.Received.{Received}
 use Rattle.matter.specs.Words.{word_bytes, word_in}
-use Rattle.frames.specs.Frames.{layout, head_in, frame_bytes, read_causes, step_of, head_of, content_of, ReadsAs, Taken, TakenApart, FrameRead, frame_made, content_causes}
+use Rattle.frames.specs.Frames.{layout, head_in, frame_bytes, read_causes, step_of, head_of, content_of, ReadsAs, Taken, TakenApart, FrameRead, content_causes}
 use Rattle.frames.specs.Notes.{step_byte}
-use Rattle.refusals.specs.Refusals.{refusal, told}
+use Rattle.refusals.specs.Refusals.{refusal}
 use Rattle.refusals.proofs.FirstCause.{passed}
 use Rattle.frames.proofs.NoteLaws.{same_step}
 use Rattle.matter.proofs.Words.{bytes_of_word_in, word_in_bytes}

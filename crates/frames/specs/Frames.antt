@@ -9,7 +9,7 @@
 --   Taken          what was received, as a frame; a content that has not eight bytes is refused by 14
 --   FrameRead      what a reader of whole frames answers: the bytes are those of the frame
 --   Again          accepted bytes written again; others are refused as the reader does
-use Rattle.std.specs.Prelude.{◌≡◌, ℕ, Bool, not, ◌&&◌, List, [], ◌∷◌, length, drop, Some, None, Ok, Err, Result, ◌==◌, nat_le, slice_index}
+use Rattle.std.specs.Prelude.{◌≡◌, ℕ, not, ◌&&◌, List, [], ◌∷◌, length, drop, Some, None, Ok, Err, Result, ◌==◌, nat_le, slice_index}
 use Rattle.refusals.specs.declared.Fault.{Fault}
 use Rattle.frames.specs.declared.notes.Step as steps
 use Rattle.frames.specs.declared.notes.Step.TheVariants as step

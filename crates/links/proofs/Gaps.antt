@@ -1,7 +1,7 @@
 -- An entry taken out of a list in place. Assumes nothing.
 --   take-length   as many elements as a front has are that front
 --   closed        after a turn by one of the part from k to n, the first n without their element k stand in front
-use Rattle.std.proofs.Common.{◌≡◌, ℕ, suc, ◌-◌, ◌<◌, ◌≤◌, List, ◌++◌, length, take, drop, sym, refl, ap, ◌∙◌, inl, inr, add-one, arith}
+use Rattle.std.proofs.Common.{◌≡◌, ℕ, suc, ◌-◌, ◌<◌, ◌≤◌, List, ◌++◌, length, take, drop, sym, ap, ◌∙◌, inl, inr, add-one, arith}
 use borrow.Rule.Slice.PartMut.{put_mid, post_of}
 use Rattle.std.proofs.lemmas.List.{take_all, append_assoc, length-append, length-take-le, length-drop, drop-drop, take_at, take-take}
 use Rattle.std.proofs.lemmas.Slice.{between_is}

@@ -5,12 +5,12 @@
 --   lines_more   a whole frame has its line, and the rest its lines
 --   in_order     frames one after the other have their lines one after the other
 --   listed-..    the turns of a loop over a capture, and its ends
-use Rattle.std.proofs.Common.{◌≡◌, ℕ, zero, suc, ◌+◌, ◌-◌, ◌<◌, ◌≤◌, true, false, eqb, ltb, List, [], ◌∷◌, ◌++◌, length, get_or, take, drop, codes, sym, refl, ap, ◌∙◌, append_assoc, arith, length-append}
+use Rattle.std.proofs.Common.{◌≡◌, ℕ, zero, suc, ◌+◌, ◌-◌, ◌<◌, ◌≤◌, true, false, List, [], ◌∷◌, ◌++◌, length, get_or, take, drop, codes, sym, refl, ap, ◌∙◌, append_assoc, arith, length-append}
 use Rattle.std.proofs.lemmas.List.{append-nil, take_at, drop_at}
 use Rattle.std.proofs.lemmas.Bool.{cond-true, cond-false, or_from, ne_eqb, le-ltb}
 use Rattle.frames.specs.declared.notes.Frame.{Frame}
 use Rattle.frames.specs.Frames.{frame_bytes}
-use Rattle.listing.specs.Text.{line, frame_text, short, lines, listing, all_bytes, all_lines, InOrder}
+use Rattle.listing.specs.Text.{line, frame_text, short, lines, all_bytes, all_lines, InOrder}
 
 pub lines_end : (k n : ℕ) → lines k n [] ≡ []
 unfolding lines

@@ -1,5 +1,5 @@
 -- The text of bytes that are a frame is the text of that frame. Assumes nothing.
-use Rattle.std.proofs.Common.{◌≡◌, ℕ, List, [], ◌∷◌, get_or, drop, None, Ok, Option, sym, refl, ap, ◌∙◌}
+use Rattle.std.proofs.Common.{◌≡◌, ℕ, List, [], ◌∷◌, get_or, drop, None, Ok, Option, sym, ap, ◌∙◌}
 use Rattle.refusals.specs.Refusals.{Told}
 use Rattle.matter.specs.Words.{word_in}
 use Rattle.frames.specs.declared.notes.Frame.{Frame}

@@ -11,7 +11,7 @@
 --   listing       all lines of a capture
 --   NextIs        what stands next in a capture
 --   InOrder       frames one after the other have their lines one after the other
-use Rattle.std.specs.Prelude.{◌≡◌, ℕ, zero, suc, ◌+◌, ◌^◌, ◌<◌, Bool, true, false, cond, ◌||◌, List, [], ◌∷◌, ◌++◌, length, take, drop, Some, None, codes, decimal, Option, ◌==◌, nat_lt, slice_index}
+use Rattle.std.specs.Prelude.{◌≡◌, ℕ, zero, suc, ◌+◌, ◌<◌, Bool, true, false, cond, ◌||◌, List, [], ◌∷◌, ◌++◌, length, take, drop, Some, None, codes, decimal, Option, ◌==◌, nat_lt, slice_index}
 use Rattle.refusals.specs.Refusals.{Told, refusal}
 use Rattle.matter.specs.AnyKind.{all_kinds}
 use Rattle.matter.specs.Layouts.{Kind, numbered, top, unpacked, word_refusal}

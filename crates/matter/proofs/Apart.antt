@@ -1,5 +1,5 @@
 -- A list taken apart by position: its first n elements, then the rest. Assumes nothing.
-use Rattle.std.proofs.Common.{◌≡◌, ℕ, zero, suc, ◌+◌, ◌<◌, ◌≤◌, List, [], ◌∷◌, length, get_or, drop, sym, refl, ap, ◌∙◌, add-zero, arith, drop-cons}
+use Rattle.std.proofs.Common.{◌≡◌, ℕ, zero, suc, ◌+◌, ◌<◌, ◌≤◌, List, ◌∷◌, length, get_or, drop, sym, ap, ◌∙◌, add-zero, arith, drop-cons}
 
 -- the n elements of xs from i on, and then rest
 abbrev pub parts : ℕ → ℕ → List ℕ → List ℕ → List ℕ

@@ -3,7 +3,7 @@
 --   top_byte         the highest byte of a word is what lies above the other seven
 --   bytes_of_word_in   the bytes of the number that eight bytes are
 --   word_in_bytes    the number that the bytes of a word are
-use Rattle.std.proofs.Common.{◌≡◌, ℕ, ◌+◌, ◌*◌, ◌/◌, ◌%◌, ◌^◌, ◌<◌, ◌≤◌, List, [], ◌∷◌, length, get_or, sym, refl, ap, ◌∙◌, arith}
+use Rattle.std.proofs.Common.{◌≡◌, ℕ, ◌+◌, ◌*◌, ◌/◌, ◌%◌, ◌^◌, ◌<◌, ◌≤◌, List, [], ◌∷◌, length, get_or, refl, ap, arith}
 use Rattle.std.proofs.lemmas.List.{drop_all}
 use Rattle.matter.specs.Words.{word_bytes, word_in}
 use Rattle.matter.proofs.Apart.{apart}

@@ -1,6 +1,6 @@
 -- Worked examples of matter words. Assumes nothing.
 --   WorkedWords   the word of an observation of target 300, an hour into the day; starting at the day's end it is refused by 11, at byte 3
-use Rattle.std.specs.Prelude.{◌≡◌, [], ◌∷◌, Some, None}
+use Rattle.std.specs.Prelude.{◌≡◌, [], ◌∷◌, Some}
 use Rattle.matter.specs.Kinds.{observation}
 use Rattle.matter.specs.AnyKind.{all_kinds}
 use Rattle.matter.specs.Layouts.{word_of, field_causes, word_refusal, Reads}

@@ -2,14 +2,19 @@
 --   observation_whole, keep_out_whole   a number of one byte, seven bytes of fields
 --   observation_fit, keep_out_fit       a value's fields are in range
 --   observation_apart, keep_out_apart   a value is its fields
+--   two_kinds                           the two kinds have two numbers
 use Rattle.std.specs.Prelude.{◌≡◌, ◌≤◌, refl}
 use mathlib.Core.HLevel.{is_prop→PathP}
-use Rattle.std.proofs.Common.{arith, lit<}
+use Rattle.std.proofs.Common.{ap, arith, lit<}
 use denote.Struct.Props.{props}
 use Rattle.matter.specs.declared.kinds.Observation.{Observation}
 use Rattle.matter.specs.declared.kinds.KeepOut.{KeepOut}
+use Rattle.matter.specs.Layouts.{Kind}
 use Rattle.matter.specs.Kinds.{observation, observed, keep_out, kept_out}
 use Rattle.matter.specs.LayoutsLemmas.{Fit, Whole}
+
+pub two_kinds : observation ≡ keep_out → ⊥
+two_kinds e = let z = ap (λ (k : Kind). k.number) e in omega arith
 
 pub observation_whole : Whole observation
 observation_whole = record { number = lit< tt; seven = refl }

@@ -1,12 +1,11 @@
 // Matter of whichever kind a word says.
 ghost use Rattle.matter.specs.AnyKind.{all_kinds, any_kind, any_fields};
 ghost use Rattle.std.specs.Prelude.{refl};
-ghost use Rattle.std.proofs.Common.{ap, arith};
+ghost use Rattle.std.proofs.Common.{ap, sym};
 ghost use Rattle.matter.specs.declared.any_matter.AnyMatter.TheVariants.{Observation, KeepOut};
 ghost use Rattle.matter.specs.Kinds.{observation, observed, keep_out, kept_out};
-ghost use Rattle.matter.specs.KindLaws.{observation_whole, observation_fit, keep_out_whole, keep_out_fit, observation_apart, keep_out_apart};
+ghost use Rattle.matter.specs.KindLaws.{observation_whole, observation_fit, keep_out_whole, keep_out_fit, observation_apart, keep_out_apart, two_kinds};
 ghost use Rattle.matter.specs.LayoutsLemmas.{own_word_reads, read_word_again, word_eight};
-ghost use Rattle.matter.specs.Layouts.{Kind};
 
 use crate::kinds::{KeepOut, Observation};
 use crate::matters::Matter;
@@ -30,16 +29,15 @@ impl Matter for AnyMatter {
       | KeepOut m ↦ own_word_reads all_kinds keep_out (kept_out m) refl keep_out_whole (keep_out_fit m)
     ] };
 
-    // two matters of other kinds have other numbers
     ghost apart = { elim [
       | Observation m ↦
           elim [
             | Observation n ↦ λ k e. ap Observation (observation_apart m n e)
-            | KeepOut n ↦ λ k e. let z = ap (λ (x : Kind). x.number) k in absurd (omega arith)
+            | KeepOut n ↦ λ k e. absurd (two_kinds k)
           ]
       | KeepOut m ↦
           elim [
-            | Observation n ↦ λ k e. let z = ap (λ (x : Kind). x.number) k in absurd (omega arith)
+            | Observation n ↦ λ k e. absurd (two_kinds (sym k))
             | KeepOut n ↦ λ k e. ap KeepOut (keep_out_apart m n e)
           ]
     ] };

@@ -5,7 +5,7 @@
 --   stays        the put stays, with the craft taken out
 --   goes         the put goes, since no craft is left
 --   stays_open, goes_open   each put is still to be taken by some craft
-use Rattle.std.proofs.Common.{◌≡◌, ℕ, suc, ◌+◌, ◌^◌, ◌<◌, true, false, List, [], ◌∷◌, ◌++◌, length, get_or, take, drop, set, sym, ap, ◌∙◌, arith}
+use Rattle.std.proofs.Common.{◌≡◌, ℕ, suc, ◌+◌, ◌^◌, ◌<◌, true, false, List, [], ◌∷◌, ◌++◌, length, get_or, take, drop, set, sym, ap, ◌∙◌}
 use Rattle.std.specs.List.{remove}
 use Rattle.std.proofs.ByRecursion.{All-set, All-append, All-take, All-drop}
 use Rattle.std.proofs.lemmas.List.{set-get_or, set_split, get_or-append-add, get_or_append_left}

@@ -1,7 +1,7 @@
 -- What a put log means. Assumes nothing.
 --   means      the entries of its puts wait; each free place takes a put more; it needs no memory of its caller's
 --   log_laws   a put log shows what every link service shows
-use Rattle.std.specs.Prelude.{◌≡◌, ℕ, ◌-◌, ◌<◌, List, [], ◌∷◌, length, take}
+use Rattle.std.specs.Prelude.{◌≡◌, ◌-◌, ◌<◌, List, [], ◌∷◌, length, take}
 use Rattle.std.proofs.Common.{ap, arith, length-take, length-append}
 use Rattle.std.proofs.Math.Logic.{∥∥₁_elim}
 use Rattle.links.specs.Meanings.{Meaning, Laws}

@@ -1,5 +1,5 @@
 -- Refusals are told apart by number and values: the values of a number say which refusal it is. Assumes nothing.
-use Rattle.std.proofs.Common.{◌≡◌, ℕ, ◌≤◌, cond, eqb, List, [], ◌∷◌, get_or, sym, refl, ap, ◌∙◌, arith, lit≤}
+use Rattle.std.proofs.Common.{◌≡◌, ℕ, cond, eqb, List, get_or, sym, refl, ap, ◌∙◌, lit≤}
 use Rattle.refusals.specs.declared.Refusal.{Refusal}
 use Rattle.refusals.specs.declared.Refusal.TheVariants.{Label, Size, Row, Thin, Number, Ordered, Index, Spare, NoLink, Astray, Range, NoSlip, Short, Cut, Version, Unknown}
 use Rattle.refusals.specs.Refusals.{number_of, values_of}

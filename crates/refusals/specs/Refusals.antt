@@ -6,7 +6,7 @@
 --   Told, told      a fault as its caller reads it: layer, number and values
 --   Cause, cause    a cause by layer, number and values, and whether it holds
 --   refusal         of causes in the order in which they are tested, the first that holds
-use Rattle.std.specs.Prelude.{◌≡◌, ℕ, Bool, cond, List, [], ◌∷◌, Some, None, Option}
+use Rattle.std.specs.Prelude.{ℕ, Bool, cond, List, [], ◌∷◌, Some, None, Option}
 use Rattle.refusals.specs.declared.Layer.{Layer}
 use Rattle.refusals.specs.declared.Layer.TheVariants.{Frames, Links, Carriers, Flight}
 use Rattle.refusals.specs.declared.Refusal.{Refusal}

@@ -1,5 +1,4 @@
 -- A carry of the relay, by what the code's parts of it ensure. Assumes nothing.
---   Facts         the entry is taken, its receiver takes the step on its shelf, and what goes on is put
 --   carries       together they are the carry that the theory speaks of
 --   carried_on    and all that is said of an accepted carry
 --   stopped       where the put is refused

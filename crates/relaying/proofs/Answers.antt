@@ -2,7 +2,6 @@
 --   carry_answers, say_adds, meddle_adds_nothing   a carry, a say and a meddle
 use Rattle.std.proofs.Common.{◌≡◌, ℕ, Bool, true, false, ◌&&◌, ◌||◌, eqb, List, [], ◌∷◌, sym, refl, ap, ◌∙◌, subst, ⊎_elim}
 use Rattle.std.proofs.lemmas.Bool.{both_ways, cases_Bool, not-false, or_right}
-use Rattle.sets.specs.Sets.{labels}
 use Rattle.frames.specs.declared.notes.Note.{Note}
 use Rattle.links.specs.declared.entries.Entry.{Entry}
 use Rattle.pathsets.proofs.Families.{covering_all, holds_has}

@@ -13,7 +13,7 @@ use Rattle.std.proofs.lemmas.List.{append_assoc, take-append-le, drop-append-le,
 use Rattle.std.proofs.lemmas.List.Edits.{length-remove, get_or-remove_below, get_or-remove_above}
 use Rattle.std.proofs.ByRecursion.{All-append, All-take, All-drop}
 use Rattle.std.proofs.lemmas.Bool.{cases_eq, cases_order}
-use Rattle.sets.specs.Sets.{has, only, each, count}
+use Rattle.sets.specs.Sets.{has, only, each}
 use Rattle.sets.proofs.Each.{each_none, each_in, each_out, each-room, length-each-count}
 use Rattle.sets.proofs.Members.{only-has, only_lacks}
 use Rattle.sets.proofs.Counts.{count-zero}

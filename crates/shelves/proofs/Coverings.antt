@@ -3,15 +3,12 @@
 --   covered_push     one row more covers what it does, and no more
 --   covered_at       a row that covers is enough
 --   covered_more     a search that has found nothing below i, and finds nothing at i
-use Rattle.std.proofs.Common.{◌≡◌, ℕ, zero, suc, ◌+◌, ◌<◌, Bool, true, false, not, ◌&&◌, ◌||◌, eqb, List, [], ◌∷◌, ◌++◌, length, get_or, take, filter, sym, refl, ap, ◌∙◌, ⊎_elim, arith}
+use Rattle.std.proofs.Common.{◌≡◌, ℕ, zero, suc, ◌+◌, ◌<◌, Bool, true, false, ◌||◌, List, [], ◌∷◌, ◌++◌, length, get_or, take, sym, refl, ap, ◌∙◌, arith}
 use Rattle.std.proofs.lemmas.List.{take_more}
-use Rattle.std.proofs.lemmas.Bool.{cases_Bool, or_left, or_right, or_from, and_parts, and_from, and_cases, eqb-true, eq-eqb}
-use Rattle.std.proofs.lemmas.Bool.Decides.{nat_tests}
-use Rattle.sets.specs.Sets.{inside}
+use Rattle.std.proofs.lemmas.Bool.{or_left, or_right, or_from}
 use Rattle.frames.specs.declared.notes.Note.{Note}
-use Rattle.frames.specs.Notes.{same_note}
 use Rattle.shelves.specs.declared.kinds.Row.{Row}
-use Rattle.shelves.specs.Rows.{row_of, keyed, covers, covered, heard_in, stays, holding}
+use Rattle.shelves.specs.Rows.{covers, covered}
 
 or_assoc : (p q r : Bool) → ((p || q) || r) ≡ (p || (q || r))
 or_assoc true q r = refl

@@ -4,7 +4,7 @@
 --   has_room        with a free row on every shelf there is room
 --   held_for_sure   with a free row on every shelf a set is held
 --   heard-held      of all craft: exactly this listener, author and note are heard in addition
-use Rattle.std.proofs.Common.{◌≡◌, ℕ, ◌<◌, Bool, true, false, cond, not, ◌&&◌, ◌||◌, eqb, List, [], ◌∷◌, ◌++◌, length, MatchBool, filter, sym, refl, ap, ◌∙◌, subst, ⊎_elim, arith, length-take}
+use Rattle.std.proofs.Common.{◌≡◌, ℕ, ◌<◌, Bool, true, false, ◌&&◌, ◌||◌, eqb, List, [], ◌∷◌, length, MatchBool, filter, sym, refl, ap, ◌∙◌, subst, ⊎_elim, arith, length-take}
 use Rattle.std.proofs.lemmas.Bool.{cases_Bool, cases_eq, or_right, and_parts, and_left, not-false, eqb-true, eq-eqb, ne_eqb, lt-ltb, cond-true, cond-false}
 use Rattle.sets.specs.Sets.{labels, inside}
 use Rattle.sets.proofs.Members.{inside_self}

@@ -1,11 +1,10 @@
 -- One craft's shelf changed, and the others as they were. Assumes nothing.
 --   held_at, holds_at   what holding a set on one shelf does to all of them
-use Rattle.std.proofs.Common.{◌≡◌, ℕ, ◌+◌, ◌<◌, ◌≤◌, Bool, false, List, length, get_or, set, MatchBool, sym, ap, ◌∙◌, subst, arith}
+use Rattle.std.proofs.Common.{◌≡◌, ℕ, ◌+◌, ◌<◌, ◌≤◌, Bool, false, List, length, get_or, set, MatchBool, sym, ap, subst, arith}
 use Rattle.std.proofs.lemmas.Bool.{lt-ltb}
 use Rattle.std.proofs.lemmas.List.{get_or_default, get_or-set_same, get_or-set_other}
 use Rattle.sets.specs.Sets.{labels}
 use Rattle.frames.specs.declared.notes.Note.{Note}
-use Rattle.shelves.specs.declared.kinds.Row.{Row}
 use Rattle.shelves.specs.declared.kinds.Shelf.{Shelf}
 use Rattle.shelves.specs.Shelves.{rows_of, empty_shelf, Held, HeldAt, HoldsAt}
 use Rattle.shelves.proofs.FreeRows.{fewest-set}

@@ -9,7 +9,7 @@
 --   fewest       the fewest free rows on a shelf
 --   HeldAt       the same of all craft: the others keep their rows, and at most one row fewer is free
 --   HoldsAt      the same where the label may be none; then nothing changes
-use Rattle.std.specs.Prelude.{◌≡◌, ℕ, zero, suc, ◌+◌, ◌-◌, ◌≤◌, min, Bool, true, false, cond, List, [], length, take, replicate, MatchBool, filter, ◌≢◌, nat_lt, slice_index_or, refl}
+use Rattle.std.specs.Prelude.{◌≡◌, ℕ, zero, suc, ◌+◌, ◌-◌, ◌≤◌, min, Bool, false, cond, List, length, take, replicate, MatchBool, filter, ◌≢◌, nat_lt, slice_index_or, refl}
 use Rattle.std.proofs.Common.{zero-le}
 use Rattle.sets.specs.Sets.{labels}
 use Rattle.frames.specs.declared.notes.Note.{Note}

@@ -1,4 +1,4 @@
-use Rattle.std.proofs.Common.{◌≡◌, ℕ, ◌+◌, ◌-◌, List, ◌++◌, length, string_bytes, ap, ◌∙◌, arith, rules}
+use Rattle.std.proofs.Common.{ℕ, ◌+◌, ◌-◌, List, ◌++◌, length, string_bytes, ap, ◌∙◌, arith, rules}
 use Rattle.listing.specs.Text.{frame_text, lines, listing}
 use Rattle.listing.proofs.Captures.{in_order, listed_all, listed_to_end, listed_cut, listed_more}
 use Rattle.listing.proofs.list_frames.Goals as goal

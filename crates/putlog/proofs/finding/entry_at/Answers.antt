@@ -1,4 +1,4 @@
-use Rattle.std.proofs.Common.{◌≡◌, ℕ, length, get_or, arith}
+use Rattle.std.proofs.Common.{ℕ, get_or, arith}
 use Rattle.links.specs.Meanings.{entry_to}
 use Rattle.putlog.proofs.Sizes.{blank, same_length, inside_put}
 use Rattle.putlog.proofs.Strikes.{Found, found, entry_is}

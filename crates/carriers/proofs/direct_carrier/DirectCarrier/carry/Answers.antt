@@ -1,4 +1,4 @@
-use Rattle.std.proofs.Common.{◌≡◌, ◌<◌, sym, refl, arith}
+use Rattle.std.proofs.Common.{◌<◌, sym, refl, arith}
 use Rattle.std.proofs.lemmas.Bool.{both_ways}
 use Rattle.sets.specs.Sets.{labels}
 use Rattle.shelves.specs.Shelves.{fewest, heard_on}
