@@ -23,7 +23,7 @@
 --   Opened          a direct carrier just opened on a chart: its shelves are empty, and its links started with nothing waiting
 --   Opens           opening is refused by the link service's start alone
 use Rattle.std.specs.Prelude.{◌≡◌, ℕ, ◌<◌, min, Bool, true, false, cond, not, ◌&&◌, ◌⊎◌, List, [], length, Some, None, Ok, Err, Option, Result, ◌==◌, ◌≢◌, nat_lt, slice_index, slice_index_or}
-use Rattle.std.specs.List.{ContainsAt as Has, AllByRecursion as All}
+use Rattle.std.specs.List.{ContainsAt as Has, AllByRecursion}
 use Rattle.sets.specs.Sets.{has, only, adding}
 use Rattle.refusals.specs.declared.Fault.{Fault}
 use Rattle.refusals.specs.Refusals.{refusal, told}
@@ -136,8 +136,8 @@ pub record Truthful (astray : ℕ) (h : ℕ → ℕ → Note → Bool) (e : Entr
   pub own : has astray e.from ≡ false → (e.frame ≡ own_frame e.from e.frame.note) × (h e.from e.from e.frame.note ≡ true)
 
 pub record Flows (n astray : ℕ) (h : ℕ → ℕ → Note → Bool) (ws : List Entry) : Type 0 where
-  pub linked : All (Linked n) ws
-  pub truthful : All (Truthful astray h) ws
+  pub linked : AllByRecursion (Linked n) ws
+  pub truthful : AllByRecursion (Truthful astray h) ws
   pub sound : (a : ℕ) (x : Note) → h a a x ≡ true → sound n a x ≡ true
   pub said : (l a : ℕ) (x : Note) → has astray a ≡ false → h l a x ≡ true → h a a x ≡ true
   pub due : (l a : ℕ) (x : Note) → l < n → a < n → (l ≢ a) → h a a x ≡ true → (h l a x ≡ true) ⊎ Has ws (entry_to a (own_frame a x) l)

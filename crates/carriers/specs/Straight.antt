@@ -8,7 +8,7 @@
 --   flows_meddle               a craft puts a frame, and is astray
 use Rattle.std.specs.Prelude.{◌≡◌, ℕ, suc, ◌+◌, ◌-◌, ◌<◌, ◌≤◌, Bool, true, false, ◌&&◌, ◌||◌, ◌⊎◌, List, ◌++◌, length, get_or, ◌==◌, ◌≢◌, slice_index, slice_index_or, refl}
 use Rattle.std.proofs.Common.{sym, ap, subst, ◌∙◌, inl, inr, ⊎_elim, arith}
-use Rattle.std.specs.List.{remove, ContainsAt as Has, AllByRecursion as All}
+use Rattle.std.specs.List.{remove, ContainsAt as Has, AllByRecursion}
 use Rattle.std.proofs.lemmas.List.Edits.{length-remove, get_or-remove_below, get_or-remove_above}
 use Rattle.std.proofs.ByRecursion.{All-append, All-weaker, All-take, All-drop, All-get_or, has_append_left, has_append_right}
 use Rattle.std.proofs.lemmas.Bool.{cases_order, cases_eq, cases_Bool, both_ways, and_parts, and_from, or_left, eqb-true, ltb-true, not-true, lt-ltb, eq-eqb, ne_eqb, not_from_false}
@@ -40,7 +40,7 @@ module _ {X : Type 0} where
       inr (i - 1, omega arith, λ d. get_or-remove_above xs k d (i - 1) (omega arith) l ∙ ap (λ (j : ℕ). get_or xs j d) s ∙ at d)))
       (cases_order i k)
 
-  pub all_removed : (P : X → Type 0) (xs : List X) (k : ℕ) → All P xs → All P (remove xs k)
+  pub all_removed : (P : X → Type 0) (xs : List X) (k : ℕ) → AllByRecursion P xs → AllByRecursion P (remove xs k)
   all_removed P xs k h = All-append P _ _ (All-take P k xs h) (All-drop P (suc k) xs h)
 
 -- ---- what is said
@@ -124,7 +124,7 @@ is_straight_lem n e h =
 
 module _ (n astray : ℕ) (m : Meaning) (ws : List Entry) (k : ℕ) (e : Entry) (lt : k < length ws) (at : get_or ws k e ≡ e) (f : Flows n astray m.heard ws) where
   -- the entry taken is one that waited
-  waited : (P : Entry → Type 0) → All P ws → P e
+  waited : (P : Entry → Type 0) → AllByRecursion P ws → P e
   waited P all = subst P at (All-get_or P ws k e lt all)
 
   pub flows_drop : (straight n e ≡ true → m.heard e.to e.from e.frame.note ≡ true) → Flows n astray m.heard (remove ws k)

@@ -9,7 +9,7 @@
 --   none_hit         no craft at all hit no set
 use Rattle.std.proofs.Common.{◌≡◌, ℕ, suc, ◌+◌, ◌<◌, ◌≤◌, Bool, true, false, ◌&&◌, leb, List, [], ◌∷◌, Decides, sym, refl, ap, ◌∙◌, subst, ⊎_elim, arith}
 use lib.Bits.{and_le_r, or_zero_r, or_zero_l}
-use Rattle.std.specs.List.{ContainsAt as Has, AllByRecursion as All}
+use Rattle.std.specs.List.{ContainsAt as Has, AllByRecursion}
 use Rattle.std.proofs.ByRecursion.{all-has, All-weaker, Decides-by_and}
 use Rattle.std.proofs.lemmas.Bool.Decides.{Decides-below_or, Decides-and}
 use Rattle.std.proofs.lemmas.Bool.{leb-true, le-leb, eqb-true, eqb-false, ne_eqb, not-true, not-false, not_from_false, cases_lt, cases_eq}
@@ -43,14 +43,14 @@ tried-tells k ss w =
     Decides-below_or (λ h. leb (count h) k && hits h ss) (λ h. (count h ≤ k) × Hits h ss) (tried k ss) (each_tells ss k) refl (λ _. refl) w
 
 -- only the craft of the family matter
-narrowed : (h m : ℕ) (ss : List ℕ) → All (λ s. Within s m) ss → Hits h ss → Hits (shared h m) ss
+narrowed : (h m : ℕ) (ss : List ℕ) → AllByRecursion (λ s. Within s m) ss → Hits h ss → Hits (shared h m) ss
 narrowed h m [] b a = tt
 narrowed h m (s ∷ ss) b a =
     let r = shared_member s h a.0 in
     let i = r.0 in
     (shared_positive s (shared h m) i r.1 (in_shared h m i r.2 (within_in s m i b.0 r.1)), narrowed h m ss b.1 a.1)
 
-within_all : (ss : List ℕ) → All (λ s. Within s (all_of ss)) ss
+within_all : (ss : List ℕ) → AllByRecursion (λ s. Within s (all_of ss)) ss
 within_all [] = tt
 within_all (s ∷ ss) = (
   union_within_left s (all_of ss),

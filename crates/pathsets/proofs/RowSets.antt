@@ -8,7 +8,7 @@
 --   covered_sets     what rows cover is what their family covers
 --   heard_sets       a note was heard exactly if the empty set is held
 use Rattle.std.proofs.Common.{◌≡◌, ℕ, zero, suc, ◌+◌, ◌<◌, Bool, true, false, cond, not, ◌||◌, eqb, ◌⊎◌, List, [], ◌∷◌, ◌++◌, map, length, get_or, take, filter, sym, refl, ap, ◌∙◌, subst, inl, inr, ⊎_elim, arith}
-use Rattle.std.specs.List.{ContainsAt as Has, AllByRecursion as All}
+use Rattle.std.specs.List.{ContainsAt as Has, AllByRecursion}
 use Rattle.std.proofs.lemmas.List.{map-append, append-nil}
 use Rattle.std.proofs.lemmas.List.Elements.{filter-append, filter_more}
 use Rattle.std.proofs.ByRecursion.{All-append}
@@ -77,7 +77,7 @@ has_sets a x [] i d h e = absurd (omega arith)
 has_sets a x (r ∷ rs) zero d h e = has_own (keyed a x r) r (filter (keyed a x) rs) e
 has_sets a x (r ∷ rs) (suc i) d h e = has-cond (keyed a x r) r (filter (keyed a x) rs) _ (has_sets a x rs i d (omega arith) e)
 
-all_cond : (P : ℕ → Type 0) (b : Bool) (r : Row) → (b ≡ true → P r.held) → All P (map (λ x. x.held) (cond b (r ∷ []) []))
+all_cond : (P : ℕ → Type 0) (b : Bool) (r : Row) → (b ≡ true → P r.held) → AllByRecursion P (map (λ x. x.held) (cond b (r ∷ []) []))
 all_cond P true r h = (h refl, tt)
 all_cond P false r h = tt
 
@@ -86,9 +86,9 @@ pub sets_more : (a : ℕ) (x : Note) (rs : List Row) (i : ℕ) (d : Row) → i <
 sets_more a x rs i d l = ap (map (λ r. r.held)) (filter_more (keyed a x) rs i d l) ∙ map-append (λ (r : Row). r.held) (filter (keyed a x) (take i rs)) (cond (keyed a x (get_or rs i d)) (get_or rs i d ∷ []) [])
 
 pub all_sets_more : (P : ℕ → Type 0) (a : ℕ) (x : Note) (rs : List Row) (i : ℕ) (d : Row) → i < length rs
-    → All P (sets_of a x (take i rs)) → (keyed a x (get_or rs i d) ≡ true → P (get_or rs i d).held) → All P (sets_of a x (take (i + 1) rs))
+    → AllByRecursion P (sets_of a x (take i rs)) → (keyed a x (get_or rs i d) ≡ true → P (get_or rs i d).held) → AllByRecursion P (sets_of a x (take (i + 1) rs))
 all_sets_more P a x rs i d l h k =
-    subst (All P) (sym (sets_more a x rs i d l)) (All-append P _ _ h (all_cond P (keyed a x (get_or rs i d)) (get_or rs i d) k))
+    subst (AllByRecursion P) (sym (sets_more a x rs i d l)) (All-append P _ _ h (all_cond P (keyed a x (get_or rs i d)) (get_or rs i d) k))
 
 -- ---- one row more
 

@@ -7,11 +7,11 @@
 --   Hittable       some set of at most k craft hits the family
 --   HittableWith   at most k craft more, together with those of c, hit the family: what the search decides on its way
 use Rattle.std.specs.Prelude.{ℕ, zero, suc, ◌<◌, ◌≤◌, Bool, true, false, ◌&&◌, ◌||◌, List, [], ◌∷◌, nat_le}
-use Rattle.std.specs.List.{AllByRecursion as All}
+use Rattle.std.specs.List.{AllByRecursion}
 use Rattle.sets.specs.Sets.{shared, union, meeting, count}
 
 abbrev pub Hits : ℕ → List ℕ → Type 0
-Hits h ss = All (λ s. 0 < shared s h) ss
+Hits h ss = AllByRecursion (λ s. 0 < shared s h) ss
 
 abbrev pub hits : ℕ → List ℕ → Bool
 hits h [] = true

@@ -4,7 +4,7 @@
 --   all_entries   the entries of several puts, one put after the other
 --   Open          each put is still to be taken by some craft
 use Rattle.std.specs.Prelude.{ℕ, ◌<◌, List, length}
-use Rattle.std.specs.List.{flat_map, AllByRecursion as All}
+use Rattle.std.specs.List.{flat_map, AllByRecursion}
 use Rattle.links.specs.declared.entries.Entry.{Entry}
 use Rattle.links.specs.Meanings.{sent}
 use Rattle.putlog.specs.declared.puts.LoggedPut.{LoggedPut}
@@ -19,4 +19,4 @@ abbrev pub all_entries : List LoggedPut → List Entry
 all_entries ps = flat_map entries_of ps
 
 abbrev pub Open : List LoggedPut → Type 0
-Open ps = All (λ p. 0 < length (entries_of p)) ps
+Open ps = AllByRecursion (λ p. 0 < length (entries_of p)) ps

@@ -4,7 +4,7 @@
 --   told-fits     a set that is held and told fits where it arrives
 --   kept_carry    a carry of any waiting entry keeps the invariant
 use Rattle.std.proofs.Common.{◌≡◌, ℕ, ◌^◌, ◌<◌, ◌≤◌, true, false, ◌⊎◌, List, sym, refl, ap, ◌∙◌, subst, inl, inr, ⊎_elim, arith, pow_pos}
-use Rattle.std.specs.List.{remove, ContainsAt as Has, AllByRecursion as All}
+use Rattle.std.specs.List.{remove, ContainsAt as Has, AllByRecursion}
 use Rattle.std.proofs.ByRecursion.{All-append, all-has, All-weaker, has_append_left, has_append_right}
 use Rattle.std.proofs.lemmas.Bool.{cases_Bool}
 use Rattle.sets.proofs.Bits.{bit_le, bit-zero}
@@ -109,7 +109,7 @@ module _ (g : Setting) (s : State) (k : ℕ) (e : Entry) (s' : State) (ch : Char
         (λ w'. inl (rest (entry_to b (frame_of d y v) r) w')) (has-removed s.waiting k (entry_to b (frame_of d y v) r) e c.there (c.taken e) w))
         (λ w. inr (stays (path b d v) r d y w)) h
 
-    all_told : (b r d : ℕ) (y : Note) → Loyal s' r → In r (row g.chart b) → (r ≡ d → ⊥) → All (λ v. bit v r ≡ 0 → Told s' b r d y v) (held s b d y)
+    all_told : (b r d : ℕ) (y : Note) → Loyal s' r → In r (row g.chart b) → (r ≡ d → ⊥) → AllByRecursion (λ v. bit v r ≡ 0 → Told s' b r d y v) (held s b d y)
     all_told b r d y hr l ne = all_two (Proper n b d y) (λ v. bit v r ≡ 0 → Told s b r d y v) (λ v. bit v r ≡ 0 → Told s' b r d y v)
         (λ v pr h z. still_told b r d y v pr (link_to n g.chart ch b r l) ne z (h z)) (held s b d y) (kp.proper b d y) (kp.told b r d y (loyal r hr) l ne)
 
@@ -128,18 +128,18 @@ module _ (g : Setting) (s : State) (k : ℕ) (e : Entry) (s' : State) (ch : Char
         record {
           few_astray = subst (λ (m : ℕ). count m ≤ g.f) (sym c.astray) kp.few_astray;
           astray_labels = subst (λ (m : ℕ). m < 2 ^ g.n) (sym c.astray) kp.astray_labels;
-          linked = subst (All (λ e. In e.to (row g.chart e.from))) (sym dr.waiting) (all_removed _ s.waiting k kp.linked);
-          proper = λ b d y. subst (All (Proper n b d y)) (same b d y) (kp.proper b d y);
+          linked = subst (AllByRecursion (λ e. In e.to (row g.chart e.from))) (sym dr.waiting) (all_removed _ s.waiting k kp.linked);
+          proper = λ b d y. subst (AllByRecursion (Proper n b d y)) (same b d y) (kp.proper b d y);
           antichain = λ b d y. subst Antichain (same b d y) (kp.antichain b d y);
           settled = λ b d y. subst (λ (L : List ℕ). (holds 0 L ≡ true) ⊎ (hittable g.f L ≡ true)) (same b d y) (kp.settled b d y);
-          tainted = λ b d y hd no'. subst (All (λ v. 0 < shared v s'.astray)) (same b d y)
-              (subst (λ (m : ℕ). All (λ v. 0 < shared v m) (held s b d y)) (sym c.astray) (kp.tainted b d y (loyal d hd) (same_heard d d y ∙ no')));
-          tainted_waiting = subst (All _) (sym dr.waiting) (all_removed _ s.waiting k (All-weaker _ _
+          tainted = λ b d y hd no'. subst (AllByRecursion (λ v. 0 < shared v s'.astray)) (same b d y)
+              (subst (λ (m : ℕ). AllByRecursion (λ v. 0 < shared v m) (held s b d y)) (sym c.astray) (kp.tainted b d y (loyal d hd) (same_heard d d y ∙ no')));
+          tainted_waiting = subst (AllByRecursion _) (sym dr.waiting) (all_removed _ s.waiting k (All-weaker _ _
               (λ i h hf ha no'. subst (λ (m : ℕ). 0 < shared i.frame.set m) (sym c.astray) (h (loyal i.from hf) (loyal i.frame.author ha) (same_heard i.frame.author i.frame.author i.frame.note ∙ no'))) s.waiting kp.tainted_waiting));
-          told = λ b r d y hr l ne. subst (All (λ v. bit v r ≡ 0 → Told s' b r d y v)) (same b d y)
+          told = λ b r d y hr l ne. subst (AllByRecursion (λ v. bit v r ≡ 0 → Told s' b r d y v)) (same b d y)
               (all_told stays (λ f. stays u p a x (dr.why f)) (λ i h. subst (λ (w : List Entry). Has w i) (sym dr.waiting) h) b r d y hr l ne);
           known = λ b r d y hr ne h. sym (same_heard r d y) ∙ kp.known b r d y (loyal r hr) ne (ap (holds (only r)) (same b d y) ∙ h);
-          known_waiting = subst (All _) (sym dr.waiting) (all_removed _ s.waiting k (All-weaker _ _
+          known_waiting = subst (AllByRecursion _) (sym dr.waiting) (all_removed _ s.waiting k (All-weaker _ _
               (λ i h hf ne z. sym (same_heard i.from i.frame.author i.frame.note) ∙ h (loyal i.from hf) ne z) s.waiting kp.known_waiting));
         }
 
@@ -212,8 +212,8 @@ module _ (g : Setting) (s : State) (k : ℕ) (e : Entry) (s' : State) (ch : Char
     abbrev news : List Entry
     news = sent p to (frame_of a x tk.v)
 
-    all_waiting : (P : Entry → Type 0) → All P (remove s.waiting k) → ((r : ℕ) → In r to → P (entry_to p (frame_of a x tk.v) r)) → All P s'.waiting
-    all_waiting P old new = subst (All P) (sym tk.waiting) (All-append P (remove s.waiting k) news old (each_all (entry_to p (frame_of a x tk.v)) to P labels (λ r _ h. new r (has_in to r h))))
+    all_waiting : (P : Entry → Type 0) → AllByRecursion P (remove s.waiting k) → ((r : ℕ) → In r to → P (entry_to p (frame_of a x tk.v) r)) → AllByRecursion P s'.waiting
+    all_waiting P old new = subst (AllByRecursion P) (sym tk.waiting) (All-append P (remove s.waiting k) news old (each_all (entry_to p (frame_of a x tk.v)) to P labels (λ r _ h. new r (has_in to r h))))
 
     told-set : (r : ℕ) → Loyal s r → In r (row g.chart p) → (r ≡ a → ⊥) → bit tk.v r ≡ 0 → Told s' p r a x tk.v
     told-set r hr l ne z = ⊎_elim
@@ -232,11 +232,11 @@ module _ (g : Setting) (s : State) (k : ℕ) (e : Entry) (s' : State) (ch : Char
       few_astray = subst (λ (m : ℕ). count m ≤ g.f) (sym c.astray) kp.few_astray;
       astray_labels = subst (λ (m : ℕ). m < 2 ^ g.n) (sym c.astray) kp.astray_labels;
       linked = all_waiting (λ e. In e.to (row g.chart e.from)) (all_removed _ s.waiting k kp.linked) (λ r h. (tells_in (row g.chart p) a tk.v _ r h).0);
-      proper = after (λ b d y L. All (Proper n b d y) L) (fm.all (Proper n p a x) (kp.proper p a x) proper_set) kp.proper;
+      proper = after (λ b d y L. AllByRecursion (Proper n b d y) L) (fm.all (Proper n p a x) (kp.proper p a x) proper_set) kp.proper;
       antichain = after (λ b d y L. Antichain L) (fm.antichain (kp.antichain p a x)) kp.antichain;
       settled = after (λ b d y L. (holds 0 L ≡ true) ⊎ (hittable g.f L ≡ true)) fm.settled kp.settled;
-      tainted = λ b d y hd no'. subst (λ (m : ℕ). All (λ v. 0 < shared v m) (held s' b d y)) (sym c.astray)
-          (after (λ b d y L. Loyal s d → heard s d d y ≡ false → All (λ v. 0 < shared v s.astray) L)
+      tainted = λ b d y hd no'. subst (λ (m : ℕ). AllByRecursion (λ v. 0 < shared v m) (held s' b d y)) (sym c.astray)
+          (after (λ b d y L. Loyal s d → heard s d d y ≡ false → AllByRecursion (λ v. 0 < shared v s.astray) L)
           (λ ha no''. fm.all (λ v. 0 < shared v s.astray) (kp.tainted p a x ha no'') (tainted_set ha no'')) kp.tainted b d y (loyal d hd) (same_said d y ∙ no'));
       tainted_waiting = all_waiting _
           (all_removed _ s.waiting k (All-weaker _ _
@@ -244,7 +244,7 @@ module _ (g : Setting) (s : State) (k : ℕ) (e : Entry) (s' : State) (ch : Char
           (h (loyal i.from hf) (loyal i.frame.author ha) (same_said i.frame.author i.frame.note ∙ no'))) s.waiting kp.tainted_waiting))
           (λ r _ hp ha no'. subst (λ (m : ℕ). 0 < shared tk.v m) (sym c.astray) (tainted_set (loyal a ha) (same_said a x ∙ no')));
       told = λ b r d y hr l ne.
-          after (λ b d y L. (r : ℕ) → Loyal s' r → In r (row g.chart b) → (r ≡ d → ⊥) → All (λ v. bit v r ≡ 0 → Told s' b r d y v) L)
+          after (λ b d y L. (r : ℕ) → Loyal s' r → In r (row g.chart b) → (r ≡ d → ⊥) → AllByRecursion (λ v. bit v r ≡ 0 → Told s' b r d y v) L)
           (λ r hr l ne. fm.all (λ v. bit v r ≡ 0 → Told s' p r a x v) (old p r a x hr l ne) (told-set r (loyal r hr) l ne))
           (λ b d y r hr l ne. old b r d y hr l ne) b d y r hr l ne;
       known = λ b r d y hr ne h.
@@ -257,7 +257,7 @@ module _ (g : Setting) (s : State) (k : ℕ) (e : Entry) (s' : State) (ch : Char
           (λ r _ hp ne z. ap (holds 0) tk.changed.own ∙ subst (λ (m : ℕ). holds m tk.F ≡ true) z fm.holds_set);
     }
       where
-        old : (b r d : ℕ) (y : Note) → Loyal s' r → In r (row g.chart b) → (r ≡ d → ⊥) → All (λ v. bit v r ≡ 0 → Told s' b r d y v) (held s b d y)
+        old : (b r d : ℕ) (y : Note) → Loyal s' r → In r (row g.chart b) → (r ≡ d → ⊥) → AllByRecursion (λ v. bit v r ≡ 0 → Told s' b r d y v) (held s b d y)
         old = all_told stays (λ _. ap (λ (L : List ℕ). covering L u) tk.changed.own ∙ fm.covers)
             (λ i h. subst (λ (w : List Entry). Has w i) (sym tk.waiting) (has_append_left (remove s.waiting k) news i h))
 

@@ -2,7 +2,7 @@
 use Rattle.std.proofs.Common.{◌≡◌, ℕ, ◌^◌, ◌<◌, true, ◌⊎◌, List, [], ◌∷◌, sym, ap, ◌∙◌, subst, inl, inr, ⊎_elim, arith}
 use lib.Bits.{or_lt}
 use lib.Pow.{pow-lt}
-use Rattle.std.specs.List.{ContainsAt as Has, AllByRecursion as All}
+use Rattle.std.specs.List.{ContainsAt as Has, AllByRecursion}
 use Rattle.std.proofs.ByRecursion.{All-push, All-weaker, has_append_left}
 use Rattle.sets.proofs.Bits.{bit_le, bit-only, bit-union}
 use Rattle.sets.proofs.Members.{shared_member, shared_positive}
@@ -38,8 +38,8 @@ module _ (g : Setting) (s : State) (c to : ℕ) (m : Frame) (s' : State) (ch : C
   still v h = let w = shared_member v s.astray h in
       shared_positive v s'.astray w.0 w.1 (omega (arith, w.2, ap (λ (k : ℕ). bit k w.0) md.astray, bit-union s.astray (only c) w.0, bit_le (only c) w.0))
 
-  all_waiting : (P : Entry → Type 0) → All P s.waiting → P (entry_to c m to) → All P s'.waiting
-  all_waiting P old new = subst (All P) (sym md.waiting) (All-push P s.waiting (entry_to c m to) old new)
+  all_waiting : (P : Entry → Type 0) → AllByRecursion P s.waiting → P (entry_to c m to) → AllByRecursion P s'.waiting
+  all_waiting P old new = subst (AllByRecursion P) (sym md.waiting) (All-push P s.waiting (entry_to c m to) old new)
 
   pub kept_meddle : Kept g s'
   kept_meddle = record {
@@ -47,16 +47,16 @@ module _ (g : Setting) (s : State) (c to : ℕ) (m : Frame) (s' : State) (ch : C
     astray_labels = subst (λ (k : ℕ). k < 2 ^ g.n) (sym md.astray)
         (or_lt g.n s.astray (only c) kp.astray_labels (let l : c < g.n = link_from g.n g.chart ch c to md.link in pow-lt l));
     linked = all_waiting (λ e. In e.to (row g.chart e.from)) kp.linked md.link;
-    proper = λ b d y. subst (All (Proper g.n b d y)) (same b d y) (kp.proper b d y);
+    proper = λ b d y. subst (AllByRecursion (Proper g.n b d y)) (same b d y) (kp.proper b d y);
     antichain = λ b d y. subst Antichain (same b d y) (kp.antichain b d y);
     settled = λ b d y. subst (λ (L : List ℕ). (holds 0 L ≡ true) ⊎ (hittable g.f L ≡ true)) (same b d y) (kp.settled b d y);
-    tainted = λ b d y hd no'. subst (All (λ v. 0 < shared v s'.astray)) (same b d y)
+    tainted = λ b d y hd no'. subst (AllByRecursion (λ v. 0 < shared v s'.astray)) (same b d y)
         (All-weaker (λ v. 0 < shared v s.astray) (λ v. 0 < shared v s'.astray) still (held s b d y) (kp.tainted b d y (loyal d hd) (same_heard d d y ∙ no')));
     tainted_waiting = all_waiting _
         (All-weaker _ _ (λ i h hf ha no'. still i.frame.set
         (h (loyal i.from hf) (loyal i.frame.author ha) (same_heard i.frame.author i.frame.author i.frame.note ∙ no'))) s.waiting kp.tainted_waiting)
         (λ hc _ _. absurd (gone hc));
-    told = λ b r d y hr l ne. subst (All (λ v. bit v r ≡ 0 → Told s' b r d y v)) (same b d y)
+    told = λ b r d y hr l ne. subst (AllByRecursion (λ v. bit v r ≡ 0 → Told s' b r d y v)) (same b d y)
         (All-weaker (λ v. bit v r ≡ 0 → Told s b r d y v) (λ v. bit v r ≡ 0 → Told s' b r d y v)
         (λ v h z. ⊎_elim
         (λ (w : Has s.waiting (entry_to b (frame_of d y v) r)). inl (subst (λ (l : List Entry). Has l (entry_to b (frame_of d y v) r)) (sym md.waiting) (has_append_left s.waiting (entry_to c m to ∷ []) (entry_to b (frame_of d y v) r) w)))

@@ -4,7 +4,7 @@
 --   say_stays     what was covered still is
 --   kept_say      the invariant is kept
 use Rattle.std.proofs.Common.{◌≡◌, ℕ, ◌^◌, ◌<◌, ◌≤◌, true, false, eqb, ◌⊎◌, List, [], ◌∷◌, ◌++◌, sym, refl, ap, ◌∙◌, subst, inl, inr, ⊎_elim, arith, pow_pos}
-use Rattle.std.specs.List.{ContainsAt as Has, AllByRecursion as All}
+use Rattle.std.specs.List.{ContainsAt as Has, AllByRecursion}
 use Rattle.std.proofs.ByRecursion.{All-append, All-weaker, has_append_left, has_append_right}
 use Rattle.std.proofs.lemmas.Bool.{both_ways, cases_Bool, eq-eqb, or_left}
 use Rattle.sets.proofs.Bits.{bit-zero}
@@ -28,7 +28,7 @@ use Rattle.relaying.specs.Laws.{Charted}
 use Rattle.relaying.specs.States.{Loyal, Says, Setting, State, frame_of, heard, held, row}
 
 -- a family of nothing but the empty set, and without it, is empty
-all_zero : (ss : List ℕ) → All (λ v. v ≡ 0) ss → holds 0 ss ≡ false → ss ≡ []
+all_zero : (ss : List ℕ) → AllByRecursion (λ v. v ≡ 0) ss → holds 0 ss ≡ false → ss ≡ []
 all_zero [] a h = refl
 all_zero (v ∷ vs) a h = absurd (both_ways (holds 0 (v ∷ vs)) h (or_left (eqb 0 v) _ (eq-eqb 0 v (sym a.0))))
 
@@ -72,8 +72,8 @@ module _ (g : Setting) (s : State) (a : ℕ) (x : Note) (s' : State) (ch : Chart
   abbrev news : List Entry
   news = sent a (row g.chart a) (frame_of a x 0)
 
-  all_waiting : (P : Entry → Type 0) → All P s.waiting → ((r : ℕ) → In r (row g.chart a) → P (entry_to a (frame_of a x 0) r)) → All P s'.waiting
-  all_waiting P old new = subst (All P) (sym sy.waiting) (All-append P s.waiting news old (each_all (entry_to a (frame_of a x 0)) (row g.chart a) P labels (λ r _ h. new r (has_in (row g.chart a) r h))))
+  all_waiting : (P : Entry → Type 0) → AllByRecursion P s.waiting → ((r : ℕ) → In r (row g.chart a) → P (entry_to a (frame_of a x 0) r)) → AllByRecursion P s'.waiting
+  all_waiting P old new = subst (AllByRecursion P) (sym sy.waiting) (All-append P s.waiting news old (each_all (entry_to a (frame_of a x 0)) (row g.chart a) P labels (λ r _ h. new r (has_in (row g.chart a) r h))))
 
   has_waiting : (i : Entry) → Has (s.waiting ++ news) i → Has s'.waiting i
   has_waiting i h = subst (λ (w : List Entry). Has w i) (sym sy.waiting) h
@@ -83,19 +83,19 @@ module _ (g : Setting) (s : State) (a : ℕ) (x : Note) (s' : State) (ch : Chart
     few_astray = subst (λ (m : ℕ). count m ≤ g.f) (sym sy.astray) kp.few_astray;
     astray_labels = subst (λ (m : ℕ). m < 2 ^ g.n) (sym sy.astray) kp.astray_labels;
     linked = all_waiting (λ e. In e.to (row g.chart e.from)) kp.linked (λ r h. h);
-    proper = after (λ b d y L. All (Proper g.n b d y) L)
+    proper = after (λ b d y L. AllByRecursion (Proper g.n b d y) L)
         (record { craft = sy.author; author = sy.author; sound = sy.sound; not_own = bit-zero a; not_author = bit-zero a; labels = pow_pos g.n; said = λ _. refl }, tt) kp.proper;
     antichain = after (λ b d y L. Antichain L) (tt, tt) kp.antichain;
     settled = after (λ b d y L. (holds 0 L ≡ true) ⊎ (hittable g.f L ≡ true)) (inl refl) kp.settled;
-    tainted = λ b d y hd no'. subst (λ (m : ℕ). All (λ v. 0 < shared v m) (held s' b d y)) (sym sy.astray)
-        (after (λ b d y L. Loyal s d → heard s' d d y ≡ false → All (λ v. 0 < shared v s.astray) L)
+    tainted = λ b d y hd no'. subst (λ (m : ℕ). AllByRecursion (λ v. 0 < shared v m) (held s' b d y)) (sym sy.astray)
+        (after (λ b d y L. Loyal s d → heard s' d d y ≡ false → AllByRecursion (λ v. 0 < shared v s.astray) L)
         (λ _ no''. absurd (both_ways (heard s' a a x) no'' said_now)) (λ b d y hd no''. kp.tainted b d y hd (not_before d d y no'')) b d y (loyal d hd) no');
     tainted_waiting = all_waiting _
         (All-weaker _ _ (λ i h hf ha no'. subst (λ (m : ℕ). 0 < shared i.frame.set m) (sym sy.astray)
         (h (loyal i.from hf) (loyal i.frame.author ha) (not_before i.frame.author i.frame.author i.frame.note no'))) s.waiting kp.tainted_waiting)
         (λ r _ _ _ no'. absurd (both_ways (heard s' a a x) no' said_now));
     told = λ b r d y hr l ne.
-        after (λ b d y L. (r : ℕ) → Loyal s' r → In r (row g.chart b) → (r ≡ d → ⊥) → All (λ v. bit v r ≡ 0 → Told s' b r d y v) L)
+        after (λ b d y L. (r : ℕ) → Loyal s' r → In r (row g.chart b) → (r ≡ d → ⊥) → AllByRecursion (λ v. bit v r ≡ 0 → Told s' b r d y v) L)
         (λ r hr l ne. (
           (λ _. inl (has_waiting (entry_to a (frame_of a x 0) r) (has_append_right s.waiting news (entry_to a (frame_of a x 0) r)
               (each-has (entry_to a (frame_of a x 0)) (row g.chart a) labels r (omega (arith, link_to g.n g.chart ch a r l, g.few)) (in_has (row g.chart a) r l))))),

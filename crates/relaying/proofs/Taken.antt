@@ -5,7 +5,7 @@
 --   Took, Dropped  what holds of a carry whose frame was taken in, and of one whose frame was dropped
 --   carried        each carry is one of the two
 use Rattle.std.proofs.Common.{◌≡◌, ℕ, ◌<◌, ◌≤◌, true, false, eqb, ◌⊎◌, List, [], ◌∷◌, ◌++◌, sym, refl, ap, ◌∙◌, inl, inr, ⊎_elim, arith, pow_pos}
-use Rattle.std.specs.List.{remove, AllByRecursion as All}
+use Rattle.std.specs.List.{remove, AllByRecursion}
 use Rattle.std.proofs.lemmas.List.{append-nil}
 use Rattle.std.proofs.lemmas.Bool.{and_cases, and_parts, both_ways, cases_Bool, cases_eq, cond-false, cond-true, eqb-true, not-false, not-true, or_cases, true≢false}
 use Rattle.sets.proofs.Removed.{each_empty}
@@ -29,7 +29,7 @@ use Rattle.relaying.specs.States.{Carries, Setting, State, frame_of, held, row, 
 -- the family F that is held after the path u was taken into ss, and the set v that is sent on
 pub record Family (f : ℕ) (ss : List ℕ) (u v : ℕ) (F : List ℕ) : Type 1 where
   -- each new set is an old one or v
-  pub all : (P : ℕ → Type 0) → All P ss → P v → All P F
+  pub all : (P : ℕ → Type 0) → AllByRecursion P ss → P v → AllByRecursion P F
   pub holds_set : holds v F ≡ true
   pub single : (r : ℕ) → holds (only r) F ≡ true → holds (only r) (inserted u ss) ≡ true
   pub set : (v ≡ u) ⊎ (v ≡ 0)

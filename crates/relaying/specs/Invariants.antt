@@ -13,7 +13,7 @@
 --     known             a loyal craft that is alone in a held set has heard the note
 --     known_waiting     and so has one that sends the empty set of another author
 use Rattle.std.specs.Prelude.{◌≡◌, ℕ, ◌^◌, ◌<◌, ◌≤◌, true, false, ◌⊎◌, ◌≢◌}
-use Rattle.std.specs.List.{ContainsAt as Has, AllByRecursion as All}
+use Rattle.std.specs.List.{ContainsAt as Has, AllByRecursion}
 use Rattle.sets.specs.Sets.{bit, In, only, shared, count}
 use Rattle.frames.specs.declared.notes.Note.{Note}
 use Rattle.frames.specs.Notes.{sound}
@@ -38,14 +38,14 @@ Told s p r a x v = Has s.waiting (entry_to p (frame_of a x v) r) ⊎ (covering (
 pub record Kept (g : Setting) (s : State) : Type 0 where
   pub few_astray : count s.astray ≤ g.f
   pub astray_labels : s.astray < 2 ^ g.n
-  pub linked : All (λ e. In e.to (row g.chart e.from)) s.waiting
-  pub proper : (p a : ℕ) (x : Note) → All (Proper g.n p a x) (held s p a x)
+  pub linked : AllByRecursion (λ e. In e.to (row g.chart e.from)) s.waiting
+  pub proper : (p a : ℕ) (x : Note) → AllByRecursion (Proper g.n p a x) (held s p a x)
   pub antichain : (p a : ℕ) (x : Note) → Antichain (held s p a x)
   pub settled : (p a : ℕ) (x : Note) → (heard s p a x ≡ true) ⊎ (hittable g.f (held s p a x) ≡ true)
-  pub tainted : (p a : ℕ) (x : Note) → Loyal s a → heard s a a x ≡ false → All (λ v. 0 < shared v s.astray) (held s p a x)
-  pub tainted_waiting : All (λ e. Loyal s e.from → Loyal s e.frame.author → heard s e.frame.author e.frame.author e.frame.note ≡ false
+  pub tainted : (p a : ℕ) (x : Note) → Loyal s a → heard s a a x ≡ false → AllByRecursion (λ v. 0 < shared v s.astray) (held s p a x)
+  pub tainted_waiting : AllByRecursion (λ e. Loyal s e.from → Loyal s e.frame.author → heard s e.frame.author e.frame.author e.frame.note ≡ false
       → 0 < shared e.frame.set s.astray) s.waiting
-  pub told : (p r a : ℕ) (x : Note) → Loyal s r → In r (row g.chart p) → (r ≢ a) → All (λ v. bit v r ≡ 0 → Told s p r a x v) (held s p a x)
+  pub told : (p r a : ℕ) (x : Note) → Loyal s r → In r (row g.chart p) → (r ≢ a) → AllByRecursion (λ v. bit v r ≡ 0 → Told s p r a x v) (held s p a x)
   pub known : (p r a : ℕ) (x : Note) → Loyal s r → (r ≢ a) → holds (only r) (held s p a x) ≡ true → heard s r a x ≡ true
-  pub known_waiting : All (λ e. Loyal s e.from → (e.from ≢ e.frame.author) → e.frame.set ≡ 0
+  pub known_waiting : AllByRecursion (λ e. Loyal s e.from → (e.from ≢ e.frame.author) → e.frame.set ≡ 0
       → heard s e.from e.frame.author e.frame.note ≡ true) s.waiting
