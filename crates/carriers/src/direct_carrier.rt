@@ -7,9 +7,9 @@ ghost use Rattle.carriers.specs.Steps;
 
 use crate::carrier::Carrier;
 use crate::direct::Direct;
-use crate::gain::ToOthers;
 use crate::heard::Heard;
 use crate::judge::{judge_carry, judge_meddle, judge_say};
+use agreement::LawfulCarrier;
 use cuts::CompleteChart;
 use frames::{Frame, Note};
 use links::{Entry, LinkService};
@@ -44,16 +44,21 @@ impl<L: LinkService + Drop> Direct<L> {
     }
 }
 
-impl<L: LinkService> Carrier for Direct<L> {
-    type By = ToOthers;
-
+impl<L: LinkService> LawfulCarrier for Direct<L> {
     ghost meaning = { means L.LinkService.meaning };
-
-    ghost tells = { hearing_of L.LinkService.meaning };
 
     ghost sound = { Sound L.LinkService.meaning };
 
     ghost lawful = { λ s h. Steps.lawful L.LinkService.meaning s h };
+}
+
+impl<L: LinkService> Carrier for Direct<L> {
+    // One frame to each of at most seven others.
+    const G: u64 = 7;
+
+    ghost G = { 7 };
+
+    ghost tells = { hearing_of L.LinkService.meaning };
 
     fn say(&mut self, author: u8, note: Note) -> Result<(), Fault>
         ensures step { Sound L.LinkService.meaning self.old → Say 7 (means L.LinkService.meaning self.old) author note result (means L.LinkService.meaning self.new) × Sound L.LinkService.meaning self.new }

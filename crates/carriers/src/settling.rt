@@ -9,19 +9,14 @@ use refusals::Fault;
 // Carries the first frame that waits, as often as the budget allows, until nothing waits or there is no room. Answers how often.
 pub fn settle<C: Carrier>(carrier: &mut C, budget: usize) -> usize
     ensures most { result ≤ budget }
-    ensures settled { C.Carrier.sound carrier.old → Settled (C.Carrier.meaning carrier.old) budget result (C.Carrier.meaning carrier.new) × C.Carrier.sound carrier.new }
+    ensures settled { C.sound carrier.old → Settled (C.meaning carrier.old) budget result (C.meaning carrier.new) × C.sound carrier.new }
 {
-    let mut carried = 0;
-    while carried < budget {
-        if carrier.waiting() == 0 {
+    for carried in 0..budget {
+        if carrier.waiting() == 0 || carrier.carry(0).is_err() {
             return carried;
         }
-        match carrier.carry(0) {
-            Ok(_) => carried += 1,
-            Err(_) => return carried,
-        }
     }
-    carried
+    budget
 }
 
 // The author says the note, and what waits is carried as often as the budget allows. Answers whether nothing waits any more:
@@ -32,7 +27,7 @@ pub fn tell<C: Carrier>(
     note: Note,
     budget: usize,
 ) -> Result<bool, Fault>
-    ensures { C.Carrier.sound carrier.old → Tells (C.Carrier.meaning carrier.old) author note result (C.Carrier.meaning carrier.new) × C.Carrier.sound carrier.new }
+    ensures { C.sound carrier.old → Tells C.G (C.meaning carrier.old) author note budget result (C.meaning carrier.new) × C.sound carrier.new }
 {
     carrier.say(author, note)?;
     let _ = settle(carrier, budget);

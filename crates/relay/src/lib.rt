@@ -1,9 +1,7 @@
 // Dolev's relay by path sets, as a carrier over any link service.
 #![tactic(auto)]
 
-pub mod gain;
 pub mod kinds;
 pub mod relay_carrier;
 
-pub use gain::ToAllByPaths;
 pub use kinds::Relay;

@@ -8,8 +8,8 @@ ghost use Rattle.relay.specs.Passing.{PassesOn};
 ghost use Rattle.bases.specs.Parts.{parts};
 ghost use Rattle.relay.specs.Steps;
 
-use crate::gain::ToAllByPaths;
 use crate::kinds::Relay;
+use agreement::LawfulCarrier;
 use bases::Base;
 use carriers::{Carrier, Heard, judge_carry};
 use cuts::PassedChart;
@@ -56,16 +56,21 @@ impl<L: LinkService> Relay<L> {
     }
 }
 
-impl<L: LinkService> Carrier for Relay<L> {
-    type By = ToAllByPaths;
-
+impl<L: LinkService> LawfulCarrier for Relay<L> {
     ghost meaning = { means L.LinkService.meaning };
-
-    ghost tells = { telling_of L.LinkService.meaning };
 
     ghost sound = { Sound L.LinkService.meaning };
 
     ghost lawful = { λ s h. Steps.lawful s.passed (parts L.LinkService.meaning s.base) h };
+}
+
+impl<L: LinkService> Carrier for Relay<L> {
+    // 256 label sets at each of at most seven other craft, each counted eight times, and one frame to each of the seven.
+    const G: u64 = 14343;
+
+    ghost G = { 14343 };
+
+    ghost tells = { telling_of L.LinkService.meaning };
 
     fn say(&mut self, author: u8, note: Note) -> Result<(), Fault>
         ensures step { Sound L.LinkService.meaning self.old → Say 14343 (means L.LinkService.meaning self.old) author note result (means L.LinkService.meaning self.new) × Sound L.LinkService.meaning self.new }

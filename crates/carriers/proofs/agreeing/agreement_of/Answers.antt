@@ -1,5 +1,0 @@
-use Rattle.agreement.proofs.Agrees.{agreement_over_lem}
-use Rattle.carriers.proofs.agreeing.agreement_of.Goals as goal
-
-pub returns : goal.returns
-returns g c = record { answer = c.two_craft_agree.ensures.answer; agreement = agreement_over_lem g.met.C.Carrier.lawful }
