@@ -1,11 +1,10 @@
-// What a carrier over a link service is made of.
+// A store with the craft astray.
+use carriers::Store;
 use sets::CraftSet;
-use shelves::Table;
 
-// A link service, a shelf for each craft, and the craft astray.
+// What a carrier over a link service is made of, beside its chart.
 #[derive(Drop)]
 pub struct Base<L> {
-    pub links: L,
-    pub table: Table,
+    pub store: Store<L>,
     pub astray: CraftSet,
 }

@@ -1,27 +1,22 @@
-// What carriers over a link service have in common.
-ghost use Rattle.std.specs.Prelude.{◌≡◌, length};
-ghost use Rattle.bases.specs.Parts.{parts, spare_of, SaysOn, MeddlesOn, StartsOn};
+// The calls of a base: those of its store.
+ghost use Rattle.std.specs.Prelude.{◌≡◌};
+ghost use Rattle.carriers.specs.Parts.{spare_of, SaysOn, MeddlesOn};
+ghost use Rattle.bases.specs.Parts.{parts, StartsOn};
 
 use crate::base::Base;
-use carriers::{judge_meddle, judge_say};
+use carriers::Store;
 use charts::Chart;
 use frames::{Frame, Note};
 use links::LinkService;
 use refusals::Fault;
-use sets::{single, with};
-use shelves::Table;
 
 impl<L: LinkService + Drop> Base<L> {
-    // Starts the link service on the chart, with nothing held; 13 of the link service, and nothing else.
-    pub fn start(mut links: L, chart: &Chart) -> Result<Base<L>, Fault>
+    // Starts the link service on the chart, with nothing held and nobody astray; 13 of the link service, and nothing else.
+    pub fn start(links: L, chart: &Chart) -> Result<Base<L>, Fault>
         ensures { StartsOn L.LinkService.meaning links chart.now result }
     {
-        links.start(chart)?;
-        Ok(Base {
-            links,
-            table: Table::new(),
-            astray: 0,
-        })
+        let store = Store::start(links, chart)?;
+        Ok(Base { store, astray: 0 })
     }
 }
 
@@ -30,7 +25,7 @@ impl<L: LinkService> Base<L> {
     pub fn spare(&self) -> usize
         ensures { result ≡ spare_of (parts L.LinkService.meaning self.now) }
     {
-        self.links.spare().min(self.table.free())
+        self.store.spare()
     }
 
     // The author says the note: it is put to all its neighbours, and stands on its own shelf; 1, 5, 8.
@@ -38,31 +33,13 @@ impl<L: LinkService> Base<L> {
     pub fn say(&mut self, chart: &Chart, author: u8, note: Note) -> Result<(), Fault>
         ensures { SaysOn chart.now (parts L.LinkService.meaning self.old) author note result (parts L.LinkService.meaning self.new) }
     {
-        let spare = self.spare();
-        judge_say(chart.n, spare, author, &note)?;
-        if self.table.covers(author, author, &note, 0) {
-            return Ok(());
-        }
-        let neighbours = chart.row(author);
-        let frame = Frame {
-            note,
-            author,
-            set: 0,
-        };
-        self.links.put(author, neighbours, frame)?;
-        self.table.hold(author, author, &note, 0);
-        Ok(())
+        self.store.say(chart, author, note)
     }
 
     // Craft c puts any frame to a neighbour, and is astray from then on, where at most f go astray; 1, 9, 10, 8.
     pub fn meddle(&mut self, chart: &Chart, f: u8, c: u8, to: u8, frame: Frame) -> Result<(), Fault>
         ensures { MeddlesOn chart.now f (parts L.LinkService.meaning self.old) c to frame result (parts L.LinkService.meaning self.new) }
     {
-        let row = chart.row(c);
-        let spare = self.spare();
-        judge_meddle(chart.n, f, row, self.astray, spare, c, to)?;
-        self.links.put(c, single(to), frame)?;
-        self.astray = with(self.astray, c);
-        Ok(())
+        self.store.meddle(&mut self.astray, chart, f, c, to, frame)
     }
 }

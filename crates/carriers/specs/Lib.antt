@@ -1,5 +1,9 @@
 pub mod Judging
 pub mod Calls
+pub mod Parts
+pub mod ChartRows
+pub mod Again
+pub mod Puts
 pub mod Directs
 pub mod Settling
 pub mod Steps

@@ -1,33 +1,17 @@
 -- The rows of a chart on which every two craft are linked. Assumes nothing.
---   row_is      a row of a chart is that of its craft, and empty past them
---   rows_long   there are as many rows as craft
 --   Meshed      every two of n craft are linked, and no others
 --   meshed      a complete chart is so
 --   not_own     nobody is its own neighbour
 --   neighbour   everybody has one
 use Rattle.std.specs.Prelude.{◌≡◌, ℕ, ◌<◌, ◌≤◌, true, false, List, length, ◌≢◌, slice_index, refl}
-use Rattle.std.proofs.Common.{sym, ap, subst, ◌∙◌, ⊎_elim, arith, length-take}
-use Rattle.std.proofs.lemmas.List.{get_or-take, get_or_past}
-use Rattle.std.proofs.lemmas.Bool.{cases_Bool, cases_eq, cases_lt, cases_order}
+use Rattle.std.proofs.Common.{sym, ap, subst, ◌∙◌, ⊎_elim, arith}
+use Rattle.std.proofs.lemmas.Bool.{cases_Bool, cases_eq, cases_order}
 use Rattle.sets.specs.Sets.{has}
 use Rattle.sets.proofs.Members.{has_in, in_has, in_positive}
-use Rattle.charts.specs.declared.chart.Chart.{Chart}
 use Rattle.charts.specs.Rows.{Linked}
-use Rattle.charts.proofs.RowLaws.{past_empty}
 use Rattle.cuts.specs.declared.complete.CompleteChart.{CompleteChart}
-use Rattle.links.specs.Meanings.{chart_rows}
+use Rattle.carriers.specs.ChartRows.{rows_long, row_is}
 use Rattle.carriers.specs.Directs.{rows_of_chart}
-
-module _ (c : Chart) where
-  pub rows_long : length (chart_rows c) ≡ c.n
-  rows_long = omega (arith, length-take c.n c.rows, c.full, c.few)
-
-  pub row_is : (i : ℕ) → slice_index c.rows i ≡ slice_index (chart_rows c) i
-  row_is i =
-      ⊎_elim
-      (λ (l : i < c.n). sym (get_or-take c.n c.rows i 0 l))
-      (λ g. past_empty c.n c.rows c.bounded c.mutual i g ∙ sym (get_or_past (chart_rows c) i 0 (omega (arith, rows_long))))
-      (cases_lt i c.n)
 
 pub record Meshed (rows : List ℕ) (n : ℕ) : Type 0 where
   pub long : length rows ≡ n

@@ -1,30 +1,29 @@
 -- What each call does to what was heard and what waits, where every two craft are linked. Assumes nothing.
 --   has-removed, all_removed   an entry taken out of a list
---   adds_none                  what was heard before adds nothing
 --   flows_say                  an author says a sound note, and puts it to all its neighbours
 --   Straight, is_straight_lem      what a straight entry is known to have
 --   flows_drop                 an entry is taken that is not straight, or was heard before
 --   flows_hear                 an entry is taken and heard
 --   flows_meddle               a craft puts a frame, and is astray
-use Rattle.std.specs.Prelude.{◌≡◌, ℕ, suc, ◌+◌, ◌-◌, ◌<◌, ◌≤◌, Bool, true, false, ◌&&◌, ◌||◌, ◌⊎◌, List, ◌++◌, length, get_or, ◌==◌, ◌≢◌, slice_index, slice_index_or, refl}
+use Rattle.std.specs.Prelude.{◌≡◌, ℕ, suc, ◌+◌, ◌-◌, ◌<◌, ◌≤◌, Bool, true, false, ◌⊎◌, List, ◌++◌, length, get_or, ◌≢◌, slice_index, slice_index_or, refl}
 use Rattle.std.proofs.Common.{sym, ap, subst, ◌∙◌, inl, inr, ⊎_elim, arith}
 use Rattle.std.specs.List.{remove, ContainsAt as Has, AllByRecursion}
 use Rattle.std.proofs.lemmas.List.Edits.{length-remove, get_or-remove_below, get_or-remove_above}
 use Rattle.std.proofs.ByRecursion.{All-append, All-weaker, All-take, All-drop, All-get_or, has_append_left, has_append_right}
-use Rattle.std.proofs.lemmas.Bool.{cases_order, cases_eq, cases_Bool, both_ways, and_parts, and_from, or_left, eqb-true, ltb-true, not-true, lt-ltb, eq-eqb, ne_eqb, not_from_false}
+use Rattle.std.proofs.lemmas.Bool.{cases_order, cases_eq, both_ways, and_parts, and_from, eqb-true, ltb-true, not-true, lt-ltb, eq-eqb, ne_eqb, not_from_false}
 use Rattle.sets.specs.Sets.{labels, has, only, adding}
 use Rattle.sets.proofs.Each.{each_all, each-has}
 use Rattle.sets.proofs.Members.{adding-has, adding_lacks, only_lacks}
 use Rattle.frames.specs.declared.notes.Note.{Note}
 use Rattle.frames.specs.declared.notes.Frame.{Frame}
-use Rattle.frames.specs.Notes.{sound, same_note}
-use Rattle.frames.proofs.NoteLaws.{same_note_eq}
+use Rattle.frames.specs.Notes.{sound}
 use Rattle.links.specs.declared.entries.Entry.{Entry}
 use Rattle.links.specs.Meanings.{entry_to, sent}
 use Rattle.agreement.specs.Meanings.{Meaning}
 use Rattle.agreement.specs.Carrying.{Adds}
 use Rattle.agreement.proofs.HeardNotes.{adds_cases, adds_keeps, adds_it}
-use Rattle.carriers.specs.Directs.{own_frame, straight, Linked, Truthful, Flows}
+use Rattle.carriers.specs.Parts.{own_frame}
+use Rattle.carriers.specs.Directs.{straight, Linked, Truthful, Flows}
 use Rattle.carriers.specs.Meshes.{Meshed}
 
 -- ---- an entry taken out
@@ -44,23 +43,6 @@ module _ {X : Type 0} where
   all_removed P xs k h = All-append P _ _ (All-take P k xs h) (All-drop P (suc k) xs h)
 
 -- ---- what is said
-
-or_false : (p : Bool) → p ≡ (p || false)
-or_false true = refl
-or_false false = refl
-
-pub adds_none : (m : Meaning) (l a : ℕ) (x : Note) → m.heard l a x ≡ true → Adds m l a x m
-adds_none m l a x e = record {
-  at = λ p b y. ⊎_elim
-      (λ (t : (l == p && (a == b && same_note x y)) ≡ true).
-      let i = and_parts _ _ t in
-      let j = and_parts _ _ i.1 in
-      let there : m.heard p b y ≡ true = ap (λ (q : ℕ). m.heard q b y) (sym (eqb-true l p i.0)) ∙ ap (λ (q : ℕ). m.heard l q y) (sym (eqb-true a b j.0))
-      ∙ ap (λ (z : Note). m.heard l a z) (sym (same_note_eq x y j.1)) ∙ e in
-      there ∙ sym (or_left (m.heard p b y) _ there))
-      (λ t. or_false (m.heard p b y) ∙ ap (λ (c : Bool). m.heard p b y || c) (sym t))
-      (cases_Bool (l == p && (a == b && same_note x y)));
-}
 
 -- exactly one triple more: an entry stays truthful
 truthful_more : {astray : ℕ} {m m' : Meaning} {l a : ℕ} {x : Note} → Adds m l a x m' → (e : Entry) → Truthful astray m.heard e → Truthful astray m'.heard e

@@ -2,20 +2,20 @@
 ghost use Rattle.std.specs.Prelude.{◌≡◌, ℕ};
 ghost use Rattle.agreement.specs.Carrying.{Fixed};
 ghost use Rattle.carriers.specs.Calls.{Say, Carry, Meddle, Answers, Labelled};
-ghost use Rattle.carriers.specs.Directs.{means, Sound, straight, hearing_of, SaysDirect, CarriesDirect, MeddlesDirect, Opens};
+ghost use Rattle.carriers.specs.Directs.{parts_of, means, Sound, straight, hearing_of, SaysDirect, CarriesDirect, MeddlesDirect, Opens};
 ghost use Rattle.carriers.specs.Steps;
 
 use crate::carrier::Carrier;
 use crate::direct::Direct;
 use crate::heard::Heard;
-use crate::judge::{judge_carry, judge_meddle, judge_say};
+use crate::judge::judge_carry;
+use crate::store::Store;
 use agreement::LawfulCarrier;
 use cuts::CompleteChart;
 use frames::{Frame, Note};
 use links::{Entry, LinkService};
 use refusals::Fault;
-use sets::{CraftSet, single, with};
-use shelves::Table;
+use sets::CraftSet;
 
 // Whether the entry came over a link, from the author of its note, with no set, and the note is sound.
 fn is_straight(n: u8, entry: &Entry) -> bool
@@ -31,13 +31,12 @@ fn is_straight(n: u8, entry: &Entry) -> bool
 
 impl<L: LinkService + Drop> Direct<L> {
     // A carrier over the link service, on this chart; 13 of the link service's start, and nothing else.
-    pub fn open(mut links: L, chart: CompleteChart) -> Result<Direct<L>, Fault>
+    pub fn open(links: L, chart: CompleteChart) -> Result<Direct<L>, Fault>
         ensures { Opens L.LinkService.meaning links chart result }
     {
-        links.start(&chart.chart)?;
+        let store = Store::start(links, &chart.chart)?;
         Ok(Direct {
-            links,
-            table: Table::new(),
+            store,
             complete: chart,
             astray: 0,
         })
@@ -49,7 +48,7 @@ impl<L: LinkService> LawfulCarrier for Direct<L> {
 
     ghost sound = { Sound L.LinkService.meaning };
 
-    ghost lawful = { λ s h. Steps.lawful L.LinkService.meaning s h };
+    ghost lawful = { λ s h. Steps.lawful s.complete (parts_of L.LinkService.meaning s) h };
 }
 
 impl<L: LinkService> Carrier for Direct<L> {
@@ -65,21 +64,8 @@ impl<L: LinkService> Carrier for Direct<L> {
         ensures fixed { Fixed (means L.LinkService.meaning self.old) (means L.LinkService.meaning self.new) }
         ensures exact { SaysDirect L.LinkService.meaning self.old author note result self.new }
     {
-        let n = self.complete.chart.n;
-        let spare = self.spare();
-        judge_say(n, spare, author, &note)?;
-        if self.table.covers(author, author, &note, 0) {
-            return Ok(());
-        }
-        let neighbours = self.complete.chart.row(author);
-        let frame = Frame {
-            note,
-            author,
-            set: 0,
-        };
-        self.links.put(author, neighbours, frame)?;
-        self.table.hold(author, author, &note, 0);
-        Ok(())
+        let chart = self.complete.chart;
+        self.store.say(&chart, author, note)
     }
 
     fn carry(&mut self, k: usize) -> Result<Option<Heard>, Fault>
@@ -92,7 +78,7 @@ impl<L: LinkService> Carrier for Direct<L> {
         let waiting = self.waiting();
         let spare = self.spare();
         judge_carry(waiting, spare, k)?;
-        let entry = self.links.take(k)?;
+        let entry = self.store.links.take(k)?;
         let n = self.complete.chart.n;
         if !is_straight(n, &entry) {
             return Ok(None);
@@ -103,12 +89,14 @@ impl<L: LinkService> Carrier for Direct<L> {
             author: entry.from,
         };
         if self
+            .store
             .table
             .covers(heard.listener, heard.author, &heard.note, 0)
         {
             return Ok(None);
         }
-        self.table
+        self.store
+            .table
             .hold(heard.listener, heard.author, &heard.note, 0);
         Ok(Some(heard))
     }
@@ -118,13 +106,8 @@ impl<L: LinkService> Carrier for Direct<L> {
         ensures fixed { Fixed (means L.LinkService.meaning self.old) (means L.LinkService.meaning self.new) }
         ensures exact { MeddlesDirect L.LinkService.meaning self.old c to frame result self.new }
     {
-        let n = self.complete.chart.n;
-        let row = self.row(c);
-        let spare = self.spare();
-        judge_meddle(n, self.complete.f, row, self.astray, spare, c, to)?;
-        self.links.put(c, single(to), frame)?;
-        self.astray = with(self.astray, c);
-        Ok(())
+        let (chart, f) = (self.complete.chart, self.complete.f);
+        self.store.meddle(&mut self.astray, &chart, f, c, to, frame)
     }
 
     fn craft(&self) -> u8 {
@@ -136,11 +119,11 @@ impl<L: LinkService> Carrier for Direct<L> {
     }
 
     fn waiting(&self) -> usize {
-        self.links.waiting()
+        self.store.links.waiting()
     }
 
     fn spare(&self) -> usize {
-        self.links.spare().min(self.table.free())
+        self.store.spare()
     }
 
     fn astray(&self) -> CraftSet {
@@ -148,7 +131,7 @@ impl<L: LinkService> Carrier for Direct<L> {
     }
 
     fn heard(&self, listener: u8, author: u8, note: &Note) -> bool {
-        self.table.covers(listener, author, note, 0)
+        self.store.table.covers(listener, author, note, 0)
     }
 
     fn row(&self, craft: u8) -> CraftSet {

@@ -7,9 +7,12 @@ pub mod direct_carrier;
 pub mod heard;
 pub mod judge;
 pub mod settling;
+pub mod store;
+pub mod store_calls;
 
 pub use carrier::Carrier;
 pub use direct::Direct;
 pub use heard::Heard;
 pub use judge::{judge_carry, judge_meddle, judge_say};
 pub use settling::{settle, tell};
+pub use store::Store;

@@ -27,8 +27,8 @@ use Rattle.pathsets.specs.Shelving.{stepped, TakesAt}
 use Rattle.pathsets.proofs.ShelfSteps.{stepped_free, told-linked}
 use Rattle.relaying.specs.States.{Carries, stepped_at, listener, frame_of}
 use Rattle.carriers.specs.declared.heard.Heard.{Heard}
-use Rattle.bases.specs.Parts.{no_entry, Parts, spare_of}
-use Rattle.bases.proofs.Puts.{puts, less_spare, taken-below}
+use Rattle.carriers.specs.Parts.{no_entry, Parts, spare_of}
+use Rattle.carriers.specs.Puts.{puts, less_spare, taken-below}
 use Rattle.relay.specs.Passing.{PassesOn, passed_frame}
 use Rattle.relay.specs.Relays.{setting, state, telling, heard_by, CarriedOn, Stopped}
 

@@ -10,15 +10,16 @@ use Rattle.shelves.specs.Rows.{heard_in}
 use Rattle.shelves.specs.Shelves.{fewest, heard_on}
 use Rattle.relaying.specs.Laws.{fresh}
 use Rattle.bases.specs.declared.base.Base.{Base}
-use Rattle.bases.specs.Parts.{parts, StartedOn}
-use Rattle.bases.proofs.Starting.{roomy, fresh_spare}
+use Rattle.carriers.specs.Parts.{StartedOn}
+use Rattle.bases.specs.Parts.{parts}
+use Rattle.carriers.proofs.Starting.{roomy, fresh_spare}
 use Rattle.relay.specs.Relays.{Opened}
 
 module _ {L : Type 0} (m : L → links.Meaning) (laws : Laws m) where
   pub opened : (l : L) (c : PassedChart) (b : Base L) → StartedOn (m l) c.chart (parts m b) → Opened m l c (record { base = b; passed = c })
   opened l c b on =
       let start = on.started in
-      let at = b.table.at in
+      let at = b.store.table.at in
       let quiet : (p a : ℕ) (x : Note) → heard_on at p a x ≡ false = λ p a x. ap (λ (rs : List Row). heard_in rs a x) (on.shelves p) in
       record {
         started = on;
@@ -27,7 +28,7 @@ module _ {L : Type 0} (m : L → links.Meaning) (laws : Laws m) where
           heard = quiet;
           waiting = ap length start.waiting;
           astray = on.astray;
-          spare = roomy (m b.links).spare (fewest at) (fresh_spare m laws l b.links c.chart start) on.free;
+          spare = roomy (m b.store.links).spare (fewest at) (fresh_spare m laws l b.store.links c.chart start) on.free;
         };
         kept = record { rows = start.rows; reached = fresh (record { shelf = on.shelves; waiting = start.waiting; astray = on.astray }) };
       }

@@ -30,7 +30,8 @@ use Rattle.relaying.specs.Laws.{Reached}
 use Rattle.relaying.specs.Toil.{toil}
 use Rattle.agreement.specs.Meanings.{Meaning, Fresh}
 use Rattle.carriers.specs.declared.heard.Heard.{Heard}
-use Rattle.bases.specs.Parts.{no_entry, Parts, parts, spare_of, SaysOn, MeddlesOn, StartedOn}
+use Rattle.carriers.specs.Parts.{no_entry, Parts, spare_of, SaysOn, MeddlesOn, StartedOn}
+use Rattle.bases.specs.Parts.{parts}
 use Rattle.relay.specs.declared.kinds.Relay.{Relay}
 
 -- ---- what it means
@@ -65,7 +66,7 @@ abbrev pub telling : PassedChart → Parts → Entry → Option Heard
 telling c p e = cond (stepped_at (setting c) (state p) e).out.heard (Some (heard_by e)) None
 
 abbrev pub telling_of : {L : Type 0} → (L → links.Meaning) → Relay L → ℕ → Option Heard
-telling_of m r k = telling r.passed (parts m r.base) (slice_index_or (m r.base.links).waiting k no_entry)
+telling_of m r k = telling r.passed (parts m r.base) (slice_index_or (m r.base.store.links).waiting k no_entry)
 
 -- ---- what each call does
 

@@ -38,11 +38,11 @@ use Rattle.agreement.specs.Carrying.{Adds, Silent, Said, Quiet, Hears, Meddled}
 use Rattle.carriers.specs.declared.heard.Heard.{Heard}
 use Rattle.carriers.specs.Calls.{Say, Meddle}
 use Rattle.carriers.specs.Judging.{saying_causes, meddling_causes}
-use Rattle.bases.specs.Parts.{Parts, spare_of, Spoken, SaysOn, MeddledTo, MeddlesOn}
+use Rattle.carriers.specs.Parts.{Parts, spare_of, Spoken, SaysOn, MeddledTo, MeddlesOn}
 use Rattle.carriers.specs.Accepted.{may_say, may_meddle, judged_meddle}
-use Rattle.bases.proofs.ChartRows.{row_is}
-use Rattle.bases.proofs.Again.{adds_none}
-use Rattle.bases.proofs.Puts.{never, less_spare, as_free, say_puts, meddle_puts}
+use Rattle.carriers.specs.ChartRows.{row_is}
+use Rattle.carriers.specs.Again.{adds_none}
+use Rattle.carriers.specs.Puts.{never, less_spare, as_free, say_puts, meddle_puts}
 use Rattle.relay.specs.Relays.{setting, state, meaning_of, Fitting, CarriedOn}
 use Rattle.relay.specs.Charts.{charted, neighbour}
 

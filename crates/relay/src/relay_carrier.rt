@@ -50,9 +50,9 @@ impl<L: LinkService + Drop> Relay<L> {
 impl<L: LinkService> Relay<L> {
     // The entry that waits at an index.
     pub fn entry(&self, k: usize) -> Option<Entry>
-        ensures { EntryAt (L.LinkService.meaning self.now.base.links).waiting k result }
+        ensures { EntryAt (L.LinkService.meaning self.now.base.store.links).waiting k result }
     {
-        self.base.links.entry(k)
+        self.base.store.links.entry(k)
     }
 }
 
@@ -91,15 +91,15 @@ impl<L: LinkService> Carrier for Relay<L> {
         let waiting = self.waiting();
         let spare = self.spare();
         judge_carry(waiting, spare, k)?;
-        let entry = self.base.links.take(k)?;
+        let entry = self.base.store.links.take(k)?;
         let at = Listener {
             n: self.passed.chart.n,
             f: self.passed.f,
             craft: entry.to,
             neighbours: self.passed.chart.row(entry.to),
         };
-        let out = take_in_at(&mut self.base.table, &at, entry.from, &entry.frame);
-        pass_on(&mut self.base.links, &entry, &out)?;
+        let out = take_in_at(&mut self.base.store.table, &at, entry.from, &entry.frame);
+        pass_on(&mut self.base.store.links, &entry, &out)?;
         if !out.heard {
             return Ok(None);
         }
@@ -129,7 +129,7 @@ impl<L: LinkService> Carrier for Relay<L> {
     }
 
     fn waiting(&self) -> usize {
-        self.base.links.waiting()
+        self.base.store.links.waiting()
     }
 
     fn spare(&self) -> usize {
@@ -141,7 +141,7 @@ impl<L: LinkService> Carrier for Relay<L> {
     }
 
     fn heard(&self, listener: u8, author: u8, note: &Note) -> bool {
-        self.base.table.covers(listener, author, note, 0)
+        self.base.store.table.covers(listener, author, note, 0)
     }
 
     fn row(&self, craft: u8) -> CraftSet {

@@ -1,5 +1,5 @@
 use Rattle.std.proofs.Common.{◌∙◌}
-use Rattle.carriers.specs.Meshes.{row_is}
+use Rattle.carriers.specs.ChartRows.{row_is}
 use Rattle.carriers.proofs.direct_carrier.DirectCarrier.row.Goals as goal
 
 pub returns : goal.returns

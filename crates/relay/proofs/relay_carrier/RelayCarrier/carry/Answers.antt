@@ -7,9 +7,10 @@ use Rattle.pathsets.proofs.ShelfSteps.{heard-fits}
 use Rattle.relaying.specs.States.{listener}
 use Rattle.carriers.specs.declared.heard.Heard.{Heard}
 use Rattle.carriers.specs.Calls.{Answers, Labelled}
-use Rattle.bases.specs.Parts.{Parts, parts}
+use Rattle.carriers.specs.Parts.{Parts}
+use Rattle.bases.specs.Parts.{parts}
 use Rattle.carriers.specs.Accepted.{judged_carry, may_carry}
-use Rattle.bases.proofs.Puts.{never}
+use Rattle.carriers.specs.Puts.{never}
 use Rattle.relay.specs.declared.kinds.Relay.{Relay}
 use Rattle.relay.specs.Passing.{PassesOn}
 use Rattle.relay.specs.Relays.{means, setting, heard_by, telling_of, CarriedOn, CarriesRelay}
@@ -30,13 +31,13 @@ returns-in_err-pass_on g c =
     let take = c.in_ok-entry.ensures in
     let ok = judged_carry k c.waiting-waiting.ensures c.spare-spare.ensures c.in_ok-judge_carry.ensures in
     let may = may_carry (means m d).waiting (means m d).spare k ok in
-    let free : 0 < fewest d.base.table.at = omega (arith, may.room) in
+    let free : 0 < fewest d.base.store.table.at = omega (arith, may.room) in
     let is = c.row.ensures.answer in
     let takes = c.take_in_at-out.ensures in
     let x = err_from_is_err_and c.from_residual-in_err-pass_on.result c.from_residual-in_err-pass_on.ensures.1 in
     let w' = m c.pass_on.new.links in
     let p' : Parts = record { links = w'; shelves = at; astray = d.base.astray } in
-    let d' : Relay g.row.L.Denot = record { base = record { links = c.pass_on.new.links; table = c.take_in_at-out.new.table; astray = d.base.astray }; passed = d.passed } in
+    let d' : Relay g.row.L.Denot = record { base = record { store = record { links = c.pass_on.new.links; table = c.take_in_at-out.new.table }; astray = d.base.astray }; passed = d.passed } in
     let refused = subst (λ (f : Fault). PassesOn w e o (Err f) w') (sym x.2) c.in_err-pass_on.ensures in
     let error = λ (P : Result (Option Heard) Fault → Type 0) (h : P (Err x.0)). subst P (sym x.1) h in
     record {
@@ -62,7 +63,7 @@ returns-then-not-out g c =
     let take = c.in_ok-entry.ensures in
     let ok = judged_carry k c.waiting-waiting.ensures c.spare-spare.ensures c.in_ok-judge_carry.ensures in
     let may = may_carry (means m d).waiting (means m d).spare k ok in
-    let free : 0 < fewest d.base.table.at = omega (arith, may.room) in
+    let free : 0 < fewest d.base.store.table.at = omega (arith, may.room) in
     let is = c.row.ensures.answer in
     let takes = c.take_in_at-out.ensures in
     let on = c.in_ok-pass_on.ensures in
@@ -92,14 +93,14 @@ returns g c =
     let take = c.in_ok-entry.ensures in
     let ok = judged_carry k c.waiting-waiting.ensures c.spare-spare.ensures c.in_ok-judge_carry.ensures in
     let may = may_carry (means m d).waiting (means m d).spare k ok in
-    let free : 0 < fewest d.base.table.at = omega (arith, may.room) in
+    let free : 0 < fewest d.base.store.table.at = omega (arith, may.room) in
     let is = c.row.ensures.answer in
     let takes = c.take_in_at-out.ensures in
     let on = c.in_ok-pass_on.ensures in
     let hears = ap (λ (r : Outcome). r.heard) (sym (out_is d.passed p k e w at o c.row.result _ is free take takes)) ∙ c.if-not-out.false in
     let answer = sym (heard-told d.passed p e hears) in
     let co : CarriedOn d.passed p k e (Some (heard_by e)) p' = carried_on d.passed p k e w at o c.row.result _ is free take takes w' tt on (Some (heard_by e)) answer in
-    let fit = heard-fits (listener (setting d.passed) e.to) e.from e.frame (rows_at d.base.table.at e.to) hears in
+    let fit = heard-fits (listener (setting d.passed) e.to) e.from e.frame (rows_at d.base.store.table.at e.to) hears in
     record {
       step = λ s. ((ok, carry_hears d.passed p s k e (Some (heard_by e)) p' co hears), fits_on d.passed p s k e (Some (heard_by e)) p' co);
       answer = told_is d.passed p k e w (Some (heard_by e)) take answer;

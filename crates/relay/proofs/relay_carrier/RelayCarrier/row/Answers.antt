@@ -1,5 +1,5 @@
 use Rattle.std.proofs.Common.{◌∙◌}
-use Rattle.bases.proofs.ChartRows.{row_is}
+use Rattle.carriers.specs.ChartRows.{row_is}
 use Rattle.relay.proofs.relay_carrier.RelayCarrier.row.Goals as goal
 
 pub returns : goal.returns

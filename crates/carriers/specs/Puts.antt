@@ -23,7 +23,7 @@ use Rattle.links.proofs.Judged.{accepts}
 use Rattle.shelves.specs.declared.kinds.Shelf.{Shelf}
 use Rattle.shelves.specs.Shelves.{fewest}
 use Rattle.carriers.specs.Judging.{saying_causes, meddling_causes}
-use Rattle.bases.proofs.ChartRows.{row_is, rows_long}
+use Rattle.carriers.specs.ChartRows.{row_is, rows_long}
 use Rattle.carriers.specs.Accepted.{may_say, may_meddle}
 
 pub never : {X : Type 0} {Y : Type 0} (o : Option X) (x : X) → o ≡ None → o ≡ Some x → Y

@@ -1,4 +1,0 @@
-pub mod ChartRows
-pub mod Again
-pub mod Puts
-pub mod Starting
