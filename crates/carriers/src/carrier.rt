@@ -1,7 +1,10 @@
 // What a carrier is.
-ghost use Rattle.std.specs.Prelude.{◌≡◌, ℕ, ◌≤◌, Option, slice_index};
+ghost use Rattle.std.specs.Prelude.{◌≡◌, ℕ, ◌≤◌, Option, Result, slice_index};
 ghost use Rattle.sets.specs.Sets.{labels};
 ghost use Rattle.agreement.specs.Carrying.{Fixed};
+ghost use Rattle.refusals.specs.declared.Fault.{Fault};
+ghost use Rattle.frames.specs.declared.notes.Note.{Note};
+ghost use Rattle.frames.specs.declared.notes.Frame.{Frame};
 ghost use Rattle.carriers.specs.declared.heard.Heard.{Heard};
 ghost use Rattle.carriers.specs.Calls.{Say, Carry, Meddle, Answers, Labelled};
 
@@ -21,23 +24,32 @@ pub trait Carrier: LawfulCarrier {
     ghost G: { ℕ };
     // what carrying frame k tells: who hears which note of whom, or nothing
     ghost tells: { Self → ℕ → Option Heard };
+    // what each call does to the carrier itself, sound or not
+    ghost says: { Self → ℕ → Note → Result Unit Fault → Self → Type 0 };
+
+    ghost carries: { Self → ℕ → Result (Option Heard) Fault → Self → Type 0 };
+
+    ghost meddles: { Self → ℕ → ℕ → Frame → Result Unit Fault → Self → Type 0 };
 
     // The author says the note; 1, 5, 8. A note that it said before changes nothing.
     fn say(&mut self, author: u8, note: Note) -> Result<(), Fault>
         ensures step { Self.sound self.old → Say G (Self.meaning self.old) author note result (Self.meaning self.new) × Self.sound self.new }
-        ensures fixed { Fixed (Self.meaning self.old) (Self.meaning self.new) };
+        ensures fixed { Fixed (Self.meaning self.old) (Self.meaning self.new) }
+        ensures exact { says self.old author note result self.new };
 
     // Moves the frame that waits at index k, and answers who heard what by it; 7, 8.
     fn carry(&mut self, k: usize) -> Result<Option<Heard>, Fault>
         ensures step { Self.sound self.old → Carry (Self.meaning self.old) k result (Self.meaning self.new) × Self.sound self.new }
         ensures answer { Answers (tells self.old k) result }
         ensures labels { Labelled (Self.meaning self.old).n result }
-        ensures fixed { Fixed (Self.meaning self.old) (Self.meaning self.new) };
+        ensures fixed { Fixed (Self.meaning self.old) (Self.meaning self.new) }
+        ensures exact { carries self.old k result self.new };
 
     // Craft c puts any frame to a neighbour, and is astray from then on; 1, 9, 10, 8.
     fn meddle(&mut self, c: u8, to: u8, frame: Frame) -> Result<(), Fault>
         ensures step { Self.sound self.old → Meddle (Self.meaning self.old) c to result (Self.meaning self.new) × Self.sound self.new }
-        ensures fixed { Fixed (Self.meaning self.old) (Self.meaning self.new) };
+        ensures fixed { Fixed (Self.meaning self.old) (Self.meaning self.new) }
+        ensures exact { meddles self.old c to frame result self.new };
 
     // How many craft there are.
     fn craft(&self) -> u8

@@ -1,7 +1,5 @@
 // The direct carrier as a carrier.
 ghost use Rattle.std.specs.Prelude.{◌≡◌, ℕ};
-ghost use Rattle.agreement.specs.Carrying.{Fixed};
-ghost use Rattle.carriers.specs.Calls.{Say, Carry, Meddle, Answers, Labelled};
 ghost use Rattle.carriers.specs.Directs.{parts_of, means, Sound, straight, hearing_of, SaysDirect, CarriesDirect, MeddlesDirect, Opens};
 ghost use Rattle.carriers.specs.Steps;
 
@@ -59,22 +57,18 @@ impl<L: LinkService> Carrier for Direct<L> {
 
     ghost tells = { hearing_of L.LinkService.meaning };
 
-    fn say(&mut self, author: u8, note: Note) -> Result<(), Fault>
-        ensures step { Sound L.LinkService.meaning self.old → Say 7 (means L.LinkService.meaning self.old) author note result (means L.LinkService.meaning self.new) × Sound L.LinkService.meaning self.new }
-        ensures fixed { Fixed (means L.LinkService.meaning self.old) (means L.LinkService.meaning self.new) }
-        ensures exact { SaysDirect L.LinkService.meaning self.old author note result self.new }
-    {
+    ghost says = { SaysDirect L.LinkService.meaning };
+
+    ghost carries = { CarriesDirect L.LinkService.meaning };
+
+    ghost meddles = { MeddlesDirect L.LinkService.meaning };
+
+    fn say(&mut self, author: u8, note: Note) -> Result<(), Fault> {
         let chart = self.complete.chart;
         self.store.say(&chart, author, note)
     }
 
-    fn carry(&mut self, k: usize) -> Result<Option<Heard>, Fault>
-        ensures step { Sound L.LinkService.meaning self.old → Carry (means L.LinkService.meaning self.old) k result (means L.LinkService.meaning self.new) × Sound L.LinkService.meaning self.new }
-        ensures answer { Answers (hearing_of L.LinkService.meaning self.old k) result }
-        ensures labels { Labelled (means L.LinkService.meaning self.old).n result }
-        ensures fixed { Fixed (means L.LinkService.meaning self.old) (means L.LinkService.meaning self.new) }
-        ensures exact { CarriesDirect L.LinkService.meaning self.old k result self.new }
-    {
+    fn carry(&mut self, k: usize) -> Result<Option<Heard>, Fault> {
         let waiting = self.waiting();
         let spare = self.spare();
         judge_carry(waiting, spare, k)?;
@@ -101,11 +95,7 @@ impl<L: LinkService> Carrier for Direct<L> {
         Ok(Some(heard))
     }
 
-    fn meddle(&mut self, c: u8, to: u8, frame: Frame) -> Result<(), Fault>
-        ensures step { Sound L.LinkService.meaning self.old → Meddle (means L.LinkService.meaning self.old) c to result (means L.LinkService.meaning self.new) × Sound L.LinkService.meaning self.new }
-        ensures fixed { Fixed (means L.LinkService.meaning self.old) (means L.LinkService.meaning self.new) }
-        ensures exact { MeddlesDirect L.LinkService.meaning self.old c to frame result self.new }
-    {
+    fn meddle(&mut self, c: u8, to: u8, frame: Frame) -> Result<(), Fault> {
         let (chart, f) = (self.complete.chart, self.complete.f);
         self.store.meddle(&mut self.astray, &chart, f, c, to, frame)
     }

@@ -1,7 +1,5 @@
 // The relay as a carrier.
 ghost use Rattle.std.specs.Prelude.{◌≡◌, ℕ};
-ghost use Rattle.agreement.specs.Carrying.{Fixed};
-ghost use Rattle.carriers.specs.Calls.{Say, Carry, Meddle, Answers, Labelled};
 ghost use Rattle.links.specs.Calls.{EntryAt};
 ghost use Rattle.relay.specs.Relays.{means, Sound, telling_of, SaysRelay, CarriesRelay, MeddlesRelay, Opens};
 ghost use Rattle.relay.specs.Passing.{PassesOn};
@@ -72,22 +70,18 @@ impl<L: LinkService> Carrier for Relay<L> {
 
     ghost tells = { telling_of L.LinkService.meaning };
 
-    fn say(&mut self, author: u8, note: Note) -> Result<(), Fault>
-        ensures step { Sound L.LinkService.meaning self.old → Say 14343 (means L.LinkService.meaning self.old) author note result (means L.LinkService.meaning self.new) × Sound L.LinkService.meaning self.new }
-        ensures fixed { Fixed (means L.LinkService.meaning self.old) (means L.LinkService.meaning self.new) }
-        ensures exact { SaysRelay L.LinkService.meaning self.old author note result self.new }
-    {
+    ghost says = { SaysRelay L.LinkService.meaning };
+
+    ghost carries = { CarriesRelay L.LinkService.meaning };
+
+    ghost meddles = { MeddlesRelay L.LinkService.meaning };
+
+    fn say(&mut self, author: u8, note: Note) -> Result<(), Fault> {
         let chart = self.passed.chart;
         self.base.say(&chart, author, note)
     }
 
-    fn carry(&mut self, k: usize) -> Result<Option<Heard>, Fault>
-        ensures step { Sound L.LinkService.meaning self.old → Carry (means L.LinkService.meaning self.old) k result (means L.LinkService.meaning self.new) × Sound L.LinkService.meaning self.new }
-        ensures answer { Answers (telling_of L.LinkService.meaning self.old k) result }
-        ensures labels { Labelled (means L.LinkService.meaning self.old).n result }
-        ensures fixed { Fixed (means L.LinkService.meaning self.old) (means L.LinkService.meaning self.new) }
-        ensures exact { CarriesRelay L.LinkService.meaning self.old k result self.new }
-    {
+    fn carry(&mut self, k: usize) -> Result<Option<Heard>, Fault> {
         let waiting = self.waiting();
         let spare = self.spare();
         judge_carry(waiting, spare, k)?;
@@ -110,11 +104,7 @@ impl<L: LinkService> Carrier for Relay<L> {
         }))
     }
 
-    fn meddle(&mut self, c: u8, to: u8, frame: Frame) -> Result<(), Fault>
-        ensures step { Sound L.LinkService.meaning self.old → Meddle (means L.LinkService.meaning self.old) c to result (means L.LinkService.meaning self.new) × Sound L.LinkService.meaning self.new }
-        ensures fixed { Fixed (means L.LinkService.meaning self.old) (means L.LinkService.meaning self.new) }
-        ensures exact { MeddlesRelay L.LinkService.meaning self.old c to frame result self.new }
-    {
+    fn meddle(&mut self, c: u8, to: u8, frame: Frame) -> Result<(), Fault> {
         let chart = self.passed.chart;
         let f = self.passed.f;
         self.base.meddle(&chart, f, c, to, frame)
