@@ -23,7 +23,7 @@ impl KeepOut {
     {
         require(zone >= 1, 1)?;
         require(first <= LAST_SECOND, 3)?;
-        require(minutes >= 1 && minutes <= MOST_MINUTES, 6)?;
+        require((1..=MOST_MINUTES).contains(&minutes), 6)?;
         Ok(KeepOut {
             zone,
             first,
