@@ -1,20 +1,24 @@
 -- What a line says of bytes is what they are read as. Assumes nothing.
 --   matter_read     what a word is read as has the text of the word
 --   text_of_read    the text of bytes that are a frame is the text of that frame
+--   matter_unread   a word that is not read has the text `unknown`
 --   entry_of_read   the entry of what bytes are read as is the text of the bytes
+--   captured_as_read   the entry of what captured bytes are read as says what the line does
 use Rattle.std.proofs.Common.{◌≡◌, ℕ, List, [], ◌∷◌, get_or, drop, codes, Some, None, Ok, Err, Option, Result, sym, ap, ◌∙◌}
+use Rattle.std.specs.Prelude.{MatchResult}
+use Rattle.std.specs.Borrow.{Bor}
 use Rattle.refusals.specs.declared.Fault.{Fault}
 use Rattle.refusals.specs.Refusals.{Told}
 use Rattle.matter.specs.declared.any_matter.AnyMatter.{AnyMatter}
 use Rattle.matter.specs.AnyKind.{all_kinds, any_kind, any_fields}
-use Rattle.matter.specs.Layouts.{Kind, Reads, numbered, top, word_refusal, unpacked}
+use Rattle.matter.specs.Layouts.{Kind, Reads, numbered, top, word_refusal}
 use Rattle.matter.specs.Texts.{kind_text, any_text}
 use Rattle.matter.specs.Words.{word_in}
 use Rattle.frames.specs.declared.notes.Frame.{Frame}
 use Rattle.frames.specs.Frames.{frame_bytes, FrameRead}
 use Rattle.frames.specs.Lines.{hexes}
 use Rattle.frames.specs.Notes.{step_name}
-use Rattle.listing.specs.Text.{columns, matter_text, text_of, told_matter, told_frame, frame_text, entry_text}
+use Rattle.listing.specs.Text.{columns, matter_text, text_of, told_matter, told_frame, frame_text, entry_text, captured_text}
 
 pub matter_read : (w : ℕ) (m : AnyMatter) → Reads all_kinds w (any_kind m) (any_fields m) → any_text m ≡ matter_text w
 matter_read w m h =
@@ -35,3 +39,8 @@ text_of_read bytes f h =
 pub entry_of_read : (bytes : List ℕ) (r : Result Frame Fault) → FrameRead bytes r → entry_text r ≡ frame_text bytes
 entry_of_read bytes (Ok f) h = text_of_read bytes f h
 entry_of_read bytes (Err e) h = ap (λ (o : Option Told). told_frame o bytes) (sym h)
+
+pub captured_as_read : (captured : Result (Bor (List ℕ)) Fault) (r : Result Frame Fault) → MatchResult captured (λ b. FrameRead b.now r) (λ e. r ≡ Err e)
+    → entry_text r ≡ captured_text captured
+captured_as_read (Ok b) r h = entry_of_read b.now r h
+captured_as_read (Err e) r h = ap entry_text h

@@ -59,13 +59,16 @@ impl fmt::Display for Columns {
     ghost output = { λ columns. Some (text_of columns.0) };
 
     fn fmt<W: fmt::Write>(&self, f: &mut fmt::Formatter<W>) -> fmt::Result {
-        let Frame { note, author, set } = self.0;
-        let Note {
-            content,
-            step,
-            origin,
-            number,
-        } = note;
+        let Frame {
+            author,
+            note: Note {
+                step,
+                origin,
+                number,
+                content,
+            },
+            set,
+        } = self.0;
         let matter = Content(content);
         write!(
             f,
@@ -90,6 +93,7 @@ impl fmt::Display for Entry {
 }
 
 // The entry of captured bytes.
+#[tactic(auto, using(crate::proofs::FrameTexts::captured_as_read))]
 fn read_entry(captured: Result<&[u8], Fault>) -> Entry
     ensures { entry_text result.0 ≡ captured_text captured.entry }
 {
@@ -97,12 +101,14 @@ fn read_entry(captured: Result<&[u8], Fault>) -> Entry
 }
 
 // The lines of a whole capture. It ends at its end, or at a frame that is cut off, which is refused by 14.
+#[tactic(auto, using(crate::proofs::Captures::in_order))]
 pub fn list_frames(heap: Global, bytes: &[u8]) -> Result<String, AllocError>
     ensures text { IfOk result (λ s. string_bytes s ≡ listing bytes.now) }
     ensures order { InOrder }
 {
     let mut out = String::new(heap);
-    for (index, captured) in (Capture { rest: bytes }).enumerate() {
+    let capture = Capture { rest: bytes };
+    for (index, captured) in capture.enumerate() {
         let count = index + 1;
         writeln!(out, "{count} {}", read_entry(captured))?;
     }
