@@ -3,7 +3,7 @@ ghost use Rattle.std.specs.Prelude.{◌<◌, ◌≤◌};
 ghost use Rattle.sets.specs.Sets.{labels};
 
 // A craft books, under its own label, the word delivered for an origin and a number.
-#[derive(Clone, Copy)]
+#[derive(Clone, Copy, PartialEq, Eq, Debug)]
 pub struct Booking {
     pub craft: u8,
     pub origin: u8,

@@ -15,9 +15,8 @@ impl Frame {
     {
         let note = self.note;
         let (author, origin) = (self.author, note.origin);
-        let step = note.step.number();
-        let [a, b, c, d, e, f, g, h] = note.content.to_be_bytes();
-        [
+        let step = u8::from(note.step);
+        let head = [
             FRAME_LENGTH,
             FRAME_VERSION,
             step,
@@ -25,15 +24,11 @@ impl Frame {
             origin,
             note.number,
             self.set,
-            a,
-            b,
-            c,
-            d,
-            e,
-            f,
-            g,
-            h,
-        ]
+        ];
+        let mut bytes = [0; 15];
+        bytes[0..7].copy_from_slice(&head);
+        bytes[7..15].copy_from_slice(&note.content.to_be_bytes());
+        bytes
     }
 
     // Writes the fifteen bytes into the part of the buffer that starts at a place. A buffer too short is refused by 13, and left as it was.

@@ -1,5 +1,5 @@
 // The booking line, which the planner reads.
-ghost use Rattle.std.specs.Prelude.{◌≡◌, ◌/◌, ◌%◌, ◌<◌, [], ◌∷◌};
+ghost use Rattle.std.specs.Prelude.{◌≡◌, ◌<◌, [], ◌∷◌};
 ghost use Rattle.frames.specs.Bytes.{Puts};
 ghost use Rattle.frames.specs.Lines.{Booked, hex, hexes, line_bytes};
 
@@ -17,25 +17,11 @@ fn hex_digit(n: u8) -> u8
     if n < 10 { b'0' + n } else { b'a' - 10 + n }
 }
 
-// The first hexadecimal digit of a byte.
-fn high(b: u8) -> u8
-    ensures { result ≡ hex (b / 16) }
-{
-    hex_digit(b / 16)
-}
-
-// The second hexadecimal digit of a byte.
-fn low(b: u8) -> u8
-    ensures { result ≡ hex (b % 16) }
-{
-    hex_digit(b % 16)
-}
-
 // The two hexadecimal digits of a byte.
 pub fn hex_pair(byte: u8) -> [u8; 2]
     ensures { result ≡ hexes (byte ∷ []) }
 {
-    [high(byte), low(byte)]
+    [hex_digit(byte / 16), hex_digit(byte % 16)]
 }
 
 impl Booking {
@@ -67,40 +53,13 @@ impl Booking {
     pub fn line(&self) -> [u8; 28]
         ensures { result ≡ line_bytes self.now }
     {
-        let craft = hex_digit(self.craft);
-        let origin = hex_digit(self.origin);
-        let number = hex_digit(self.number);
-        let [a, b, c, d, e, f, g, h] = self.word.to_be_bytes();
-        [
-            b'b',
-            b'o',
-            b'o',
-            b'k',
-            b' ',
-            craft,
-            b' ',
-            origin,
-            b' ',
-            number,
-            b' ',
-            high(a),
-            low(a),
-            high(b),
-            low(b),
-            high(c),
-            low(c),
-            high(d),
-            low(d),
-            high(e),
-            low(e),
-            high(f),
-            low(f),
-            high(g),
-            low(g),
-            high(h),
-            low(h),
-            b'\n',
-        ]
+        let mut line = *b"book 0 0 0 0000000000000000\n";
+        line[5] = hex_digit(self.craft);
+        line[7] = hex_digit(self.origin);
+        line[9] = hex_digit(self.number);
+        let word = self.word.to_be_bytes().map(hex_pair);
+        line[11..27].copy_from_slice(word.as_flattened());
+        line
     }
 
     // Writes the line into the part of the buffer that starts at a place. A buffer too short is refused by 13, and left as it was.

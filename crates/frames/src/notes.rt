@@ -1,15 +1,18 @@
 // Notes and frames as values.
-ghost use Rattle.std.specs.Prelude.{◌≡◌};
-ghost use Rattle.frames.specs.Notes.{sound, step_byte};
+ghost use Rattle.std.specs.Prelude.{◌≡◌, Some};
+ghost use Rattle.frames.specs.Notes.{sound, step_byte, step_name, StepRead};
 
+use refusals::{Fault, Layer, Refusal};
 use sets::CraftSet;
+use std::fmt;
 
 // Orders of one craft are numbered 0 to 3.
 pub const LAST_NUMBER: u8 = 3;
 
 // The steps of Bracha's broadcast.
-#[derive(Clone, Copy, PartialEq, Eq, Debug)]
+#[derive(Clone, Copy, PartialEq, Eq, Debug, Default)]
 pub enum Step {
+    #[default]
     Send,
     Echo,
     Ready,
@@ -17,7 +20,7 @@ pub enum Step {
 
 // What a craft says: a step, the craft whose order it is about (the origin), that order's number, and its content word.
 // Fields lie in memory as they stand here: the widest goes first, here and below, so that no room is lost between them.
-#[derive(Clone, Copy, PartialEq, Eq, Debug)]
+#[derive(Clone, Copy, PartialEq, Eq, Debug, Default)]
 pub struct Note {
     pub content: u64,
     pub step: Step,
@@ -26,23 +29,52 @@ pub struct Note {
 }
 
 // A note on its way: who says it (the author), the note, and the set of craft that it is said to have come through.
-#[derive(Clone, Copy, PartialEq, Eq, Debug)]
+#[derive(Clone, Copy, PartialEq, Eq, Debug, Default)]
 pub struct Frame {
     pub note: Note,
     pub author: u8,
     pub set: CraftSet,
 }
 
-impl Step {
-    // The step's number: 1 Send, 2 Echo, 3 Ready.
-    pub fn number(self) -> u8
-        ensures { result ≡ step_byte self }
-    {
-        match self {
+// The step's number: 1 Send, 2 Echo, 3 Ready.
+impl From<Step> for u8 {
+    ghost from_gives = { λ step n. n ≡ step_byte step };
+
+    fn from(step: Step) -> u8 {
+        match step {
             Step::Send => 1,
             Step::Echo => 2,
             Step::Ready => 3,
         }
+    }
+}
+
+// The step of a number. A number of no step is refused by 16.
+impl TryFrom<u8> for Step {
+    type Error = Fault;
+
+    ghost try_from_gives = { StepRead };
+
+    fn try_from(number: u8) -> Result<Self, Fault> {
+        match number {
+            1 => Ok(Step::Send),
+            2 => Ok(Step::Echo),
+            3 => Ok(Step::Ready),
+            _ => Err(Layer::Frames.refuses(Refusal::Unknown)),
+        }
+    }
+}
+
+// The step's name.
+impl fmt::Display for Step {
+    ghost output = { λ step. Some (step_name (step_byte step)) };
+
+    fn fmt<W: fmt::Write>(&self, f: &mut fmt::Formatter<W>) -> fmt::Result {
+        f.write_str(match self {
+            Step::Send => "send",
+            Step::Echo => "echo",
+            Step::Ready => "ready",
+        })
     }
 }
 

@@ -13,7 +13,7 @@ pub const FRAME_VERSION: u8 = 1;
 const CONTENT_LENGTH: usize = 8;
 
 // What stands in a frame between its step and its content.
-#[derive(Clone, Copy)]
+#[derive(Clone, Copy, PartialEq, Eq, Debug)]
 pub struct Head {
     pub author: u8,
     pub origin: u8,
@@ -22,7 +22,8 @@ pub struct Head {
 }
 
 // A frame as it was received: the step is the case, and the content is that part of the received bytes.
-#[derive(Clone, Copy)]
+// A rule of the project: the reader answers Send, Echo or Ready, each with its content as that part of the received bytes.
+#[derive(Clone, Copy, PartialEq, Eq, Debug)]
 pub enum Received<'a> {
     Send(Head, &'a [u8]),
     Echo(Head, &'a [u8]),
@@ -52,18 +53,18 @@ pub fn read_frame(bytes: &[u8]) -> Result<Received<'_>, Fault>
     if *version != FRAME_VERSION {
         return Err(Layer::Frames.refuses(Refusal::Version(FRAME_VERSION)));
     }
+    let step = Step::try_from(*step)?;
     let head = Head {
         author: *author,
         origin: *origin,
         number: *number,
         set: *set,
     };
-    match *step {
-        1 => Ok(Received::Send(head, content)),
-        2 => Ok(Received::Echo(head, content)),
-        3 => Ok(Received::Ready(head, content)),
-        _ => Err(Layer::Frames.refuses(Refusal::Unknown)),
-    }
+    Ok(match step {
+        Step::Send => Received::Send(head, content),
+        Step::Echo => Received::Echo(head, content),
+        Step::Ready => Received::Ready(head, content),
+    })
 }
 
 impl Received<'_> {
@@ -83,11 +84,9 @@ impl Received<'_> {
 fn owned(step: Step, head: Head, content: &[u8]) -> Result<Frame, Fault>
     ensures { TakenApart step head content.now result }
 {
-    if content.len() != CONTENT_LENGTH {
+    let Ok(bytes) = <[u8; CONTENT_LENGTH]>::try_from(content) else {
         return Err(Layer::Frames.refuses(Refusal::Cut));
-    }
-    let mut bytes = [0; CONTENT_LENGTH];
-    bytes.copy_from_slice(content);
+    };
     let note = Note {
         step,
         origin: head.origin,

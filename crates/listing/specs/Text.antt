@@ -1,45 +1,37 @@
 -- A capture of frames as text, a line for each. Assumes nothing.
---   spaced        numbers in decimal, a space before each, and what follows
---   kind_name     a kind of matter by its number
 --   matter_text   the matter of a word: its kind and its values, or "unknown" where it is of no kind
---   step_name     a step by its number
 --   text_of       a frame in words: step, author, origin, number, set, content and matter
 --   frame_text    the frame that bytes are, in words, or "refused" and the number of the refusal
+--   entry_text    a frame in words, or a fault
+--   captured_text   what a line says of captured bytes
 --   line          a count, a space, a text, a line feed
 --   short         a length byte of 0, or of more than there is
 --   lines         the lines of a capture, from a count on, at most k of them
 --   listing       all lines of a capture
---   NextIs        what stands next in a capture
+--   NextIs        what stands next in a capture, and what is left of the capture after it
 --   InOrder       frames one after the other have their lines one after the other
-use Rattle.std.specs.Prelude.{◌≡◌, ℕ, zero, suc, ◌+◌, ◌<◌, Bool, true, false, cond, ◌||◌, List, [], ◌∷◌, ◌++◌, length, take, drop, Some, None, codes, decimal, Option, ◌==◌, nat_lt, slice_index}
-use Rattle.refusals.specs.Refusals.{Told, refusal}
+use Rattle.std.specs.Prelude.{◌≡◌, ℕ, zero, suc, ◌+◌, ◌<◌, Bool, true, false, cond, ◌||◌, List, [], ◌∷◌, ◌++◌, length, take, drop, Some, None, codes, decimal, Option, Ok, Err, Result, ◌==◌, nat_lt, slice_index}
+use Rattle.std.specs.Borrow.{Bor}
+use Rattle.refusals.specs.declared.Fault.{Fault}
+use Rattle.refusals.specs.declared.Layer.TheVariants.{Frames}
+use Rattle.refusals.specs.declared.Refusal.TheVariants.{Cut}
+use Rattle.refusals.specs.Refusals.{Told, refusal, fault_text}
 use Rattle.matter.specs.AnyKind.{all_kinds}
 use Rattle.matter.specs.Layouts.{Kind, numbered, top, unpacked, word_refusal}
+use Rattle.matter.specs.Texts.{spaced, kind_text}
 use Rattle.matter.specs.Words.{word_bytes, word_in}
 use Rattle.frames.specs.declared.notes.Frame.{Frame}
 use Rattle.frames.specs.Frames.{frame_bytes, read_causes}
 use Rattle.frames.specs.Lines.{hexes}
-use Rattle.frames.specs.Notes.{step_byte}
-use Rattle.listing.specs.declared.Next.{Next}
-use Rattle.listing.specs.declared.Next.TheVariants.{End, Cut, Whole}
-
-abbrev pub spaced : List ℕ → List ℕ → List ℕ
-spaced [] rest = rest
-spaced (v ∷ vs) rest = 32 ∷ (decimal v ++ spaced vs rest)
-
-abbrev pub kind_name : ℕ → List ℕ
-kind_name n = cond (n == 1) (codes "observation") (codes "keepout")
+use Rattle.frames.specs.Notes.{step_byte, step_name}
 
 abbrev pub told_matter : Option Told → Option Kind → ℕ → List ℕ
 told_matter (Some t) k w = codes "unknown"
 told_matter None None w = codes "unknown"
-told_matter None (Some k) w = kind_name k.number ++ spaced (unpacked k.layout w) []
+told_matter None (Some k) w = kind_text k (unpacked k.layout w)
 
 abbrev pub matter_text : ℕ → List ℕ
 matter_text w = told_matter (word_refusal all_kinds w) (numbered all_kinds (top w)) w
-
-abbrev pub step_name : ℕ → List ℕ
-step_name n = cond (n == 1) (codes "send") (cond (n == 2) (codes "echo") (codes "ready"))
 
 -- the columns of an accepted frame, one space between
 abbrev pub columns : List ℕ → ℕ → ℕ → ℕ → List ℕ → List ℕ → List ℕ → List ℕ
@@ -60,6 +52,14 @@ told_frame None bytes =
 abbrev pub frame_text : List ℕ → List ℕ
 frame_text bytes = told_frame (refusal (read_causes bytes)) bytes
 
+abbrev pub entry_text : Result Frame Fault → List ℕ
+entry_text (Ok f) = text_of f
+entry_text (Err e) = fault_text e
+
+abbrev pub captured_text : Result (Bor (List ℕ)) Fault → List ℕ
+captured_text (Ok frame) = frame_text frame.now
+captured_text (Err e) = fault_text e
+
 abbrev pub line : ℕ → List ℕ → List ℕ
 line n text = decimal n ++ (32 ∷ (text ++ (10 ∷ [])))
 
@@ -75,11 +75,11 @@ lines (suc k) n (l ∷ bytes) =
 abbrev pub listing : List ℕ → List ℕ
 listing bytes = lines (length bytes) 1 bytes
 
-abbrev pub NextIs : List ℕ → Next → Type 0
-NextIs bytes End = bytes ≡ []
-NextIs bytes Cut = (0 < length bytes) × (short bytes ≡ true)
-NextIs bytes (Whole frame rest) =
-    (0 < length bytes) × (short bytes ≡ false) × (frame.now ≡ take (slice_index bytes 0) bytes) × (rest.now ≡ drop (slice_index bytes 0) bytes)
+abbrev pub NextIs : List ℕ → Option (Result (Bor (List ℕ)) Fault) → List ℕ → Type 0
+NextIs bytes None after = (bytes ≡ []) × (after ≡ [])
+NextIs bytes (Some (Err e)) after = (0 < length bytes) × (short bytes ≡ true) × (e ≡ record { layer = Frames; refusal = Cut }) × (after ≡ [])
+NextIs bytes (Some (Ok frame)) after =
+    (0 < length bytes) × (short bytes ≡ false) × (frame.now ≡ take (slice_index bytes 0) bytes) × (after ≡ drop (slice_index bytes 0) bytes)
 
 abbrev pub all_bytes : List Frame → List ℕ
 all_bytes [] = []

@@ -8,6 +8,7 @@
 --   top             the highest byte of a word
 --   numbered        the first of some kinds that has a number
 --   out_of_range    the refusal by 11, with a byte's place in the word
+--   Held            what a test of a part that begins at a byte answers
 --   field_causes    each field out of range, by its first byte, from a given byte on
 --   word_causes     what is wrong with a word of a kind; it is wrong in its highest byte where it is of none
 --   word_refusal    why a word is none of some kinds
@@ -15,7 +16,7 @@
 --   Made            what a constructor answers of values
 --   ReadAs          what a reader answers of a word
 --   WrittenAgain    a word that is read comes back
-use Rattle.std.specs.Prelude.{◌≡◌, ℕ, ◌+◌, ◌*◌, ◌/◌, ◌%◌, ◌^◌, Bool, true, cond, ◌||◌, List, [], ◌∷◌, Some, None, Ok, Err, Option, Result, ◌==◌, nat_lt}
+use Rattle.std.specs.Prelude.{◌≡◌, ℕ, ◌+◌, ◌*◌, ◌/◌, ◌%◌, ◌^◌, Bool, true, false, cond, ◌||◌, List, [], ◌∷◌, Some, None, Ok, Err, Option, Result, ◌==◌, nat_lt}
 use Rattle.refusals.specs.declared.Fault.{Fault}
 use Rattle.refusals.specs.Refusals.{Told, Cause, cause, refusal, told}
 
@@ -59,6 +60,10 @@ outside f v = nat_lt v f.least || nat_lt f.most v
 
 abbrev pub out_of_range : ℕ → Bool → Cause
 out_of_range at b = cause 1 11 (at ∷ []) b
+
+abbrev pub Held : ℕ → Bool → Result Unit Fault → Type 0
+Held at b (Ok _) = b ≡ true
+Held at b (Err e) = (b ≡ false) × (told e ≡ (out_of_range at true).tells)
 
 abbrev pub field_causes : ℕ → List Field → List ℕ → List Cause
 field_causes at [] vs = []

@@ -1,20 +1,52 @@
 // Matter of whichever kind a word says.
 ghost use Rattle.matter.specs.AnyKind.{all_kinds, any_kind, any_fields};
-ghost use Rattle.std.specs.Prelude.{refl};
+ghost use Rattle.std.specs.Prelude.{◌≡◌, refl, Some};
 ghost use Rattle.std.proofs.Common.{ap, sym};
 ghost use Rattle.matter.specs.declared.any_matter.AnyMatter.TheVariants.{Observation, KeepOut};
 ghost use Rattle.matter.specs.Kinds.{observation, observed, keep_out, kept_out};
 ghost use Rattle.matter.specs.KindLaws.{observation_whole, observation_fit, keep_out_whole, keep_out_fit, observation_apart, keep_out_apart, two_kinds};
+ghost use Rattle.matter.specs.Texts.{any_text};
 ghost use Rattle.matter.specs.LayoutsLemmas.{own_word_reads, read_word_again, word_eight};
 
 use crate::kinds::{KeepOut, Observation};
+use crate::matter_kinds::MatterKind;
 use crate::matters::Matter;
-use refusals::{Fault, Layer, Refusal};
+use refusals::Fault;
+use std::fmt;
 
-#[derive(Clone, Copy)]
+// Matter of either kind.
+#[derive(Clone, Copy, PartialEq, Eq, Debug)]
 pub enum AnyMatter {
     Observation(Observation),
     KeepOut(KeepOut),
+}
+
+impl From<Observation> for AnyMatter {
+    ghost from_gives = { λ m any. any ≡ Observation m };
+
+    fn from(matter: Observation) -> AnyMatter {
+        AnyMatter::Observation(matter)
+    }
+}
+
+impl From<KeepOut> for AnyMatter {
+    ghost from_gives = { λ m any. any ≡ KeepOut m };
+
+    fn from(matter: KeepOut) -> AnyMatter {
+        AnyMatter::KeepOut(matter)
+    }
+}
+
+// The matter in words, as its kind has them.
+impl fmt::Display for AnyMatter {
+    ghost output = { λ m. Some (any_text m) };
+
+    fn fmt<W: fmt::Write>(&self, f: &mut fmt::Formatter<W>) -> fmt::Result {
+        match self {
+            AnyMatter::Observation(m) => write!(f, "{m}"),
+            AnyMatter::KeepOut(m) => write!(f, "{m}"),
+        }
+    }
 }
 
 impl Matter for AnyMatter {
@@ -62,10 +94,9 @@ impl Matter for AnyMatter {
 
     fn of_word(word: u64) -> Result<AnyMatter, Fault> {
         let [kind, ..] = word.to_be_bytes();
-        match kind {
-            Observation::KIND => Ok(AnyMatter::Observation(Observation::of_word(word)?)),
-            KeepOut::KIND => Ok(AnyMatter::KeepOut(KeepOut::of_word(word)?)),
-            _ => Err(Layer::Frames.refuses(Refusal::Range(0))),
+        match MatterKind::try_from(kind)? {
+            MatterKind::Observation => Ok(Observation::of_word(word)?.into()),
+            MatterKind::KeepOut => Ok(KeepOut::of_word(word)?.into()),
         }
     }
 }

@@ -5,7 +5,7 @@ ghost use Rattle.std.specs.Prelude.{◌≤◌};
 pub const LAST_SECOND: u32 = 86399;
 
 // A target to be imaged, from a second of the day on, for some seconds, in a camera mode.
-#[derive(Clone, Copy)]
+#[derive(Clone, Copy, PartialEq, Eq, Debug)]
 pub struct Observation {
     pub target: u16,
     pub start: u32,
@@ -18,7 +18,7 @@ pub struct Observation {
 }
 
 // A zone to be kept out of, from a second of the day on, for some minutes.
-#[derive(Clone, Copy)]
+#[derive(Clone, Copy, PartialEq, Eq, Debug)]
 pub struct KeepOut {
     pub zone: u16,
     pub first: u32,

@@ -3,10 +3,11 @@
 --   layer_number    1 frames, 2 links, 3 carriers, 4 flight
 --   number_of       the number of a refusal
 --   values_of       the values that it returns
+--   fault_text      a fault in words: "refused" and the number of its cause
 --   Told, told      a fault as its caller reads it: layer, number and values
 --   Cause, cause    a cause by layer, number and values, and whether it holds
 --   refusal         of causes in the order in which they are tested, the first that holds
-use Rattle.std.specs.Prelude.{ℕ, Bool, cond, List, [], ◌∷◌, Some, None, Option}
+use Rattle.std.specs.Prelude.{ℕ, Bool, cond, List, [], ◌∷◌, ◌++◌, Some, None, Option, codes, decimal}
 use Rattle.refusals.specs.declared.Layer.{Layer}
 use Rattle.refusals.specs.declared.Layer.TheVariants.{Frames, Links, Carriers, Flight}
 use Rattle.refusals.specs.declared.Refusal.{Refusal}
@@ -55,6 +56,9 @@ values_of (Short l) = l ∷ []
 values_of Cut = 0 ∷ []
 values_of (Version v) = v ∷ []
 values_of Unknown = 2 ∷ []
+
+abbrev pub fault_text : Fault → List ℕ
+fault_text e = codes "refused " ++ decimal (number_of e.refusal)
 
 pub record Told : Type 0 where
   pub layer : ℕ

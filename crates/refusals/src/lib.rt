@@ -1,11 +1,13 @@
 // Refusals: why a call is refused, and which layer refused it. One list for all layers.
 #![tactic(auto)]
 
-ghost use Rattle.std.specs.Prelude.{◌≡◌};
-ghost use Rattle.refusals.specs.Refusals.{number_of, layer_number};
+ghost use Rattle.std.specs.Prelude.{◌≡◌, Some};
+ghost use Rattle.refusals.specs.Refusals.{number_of, layer_number, fault_text};
 ghost use Rattle.refusals.specs.Apart.{ToldApart, NumbersTo};
 
 use sets::CraftSet;
+use std::error::Error;
+use std::fmt;
 
 // The four layers, from the bottom up: the one whose test failed stands in the fault.
 #[derive(Clone, Copy, PartialEq, Eq, Debug)]
@@ -60,19 +62,21 @@ pub struct Fault {
     pub refusal: Refusal,
 }
 
-impl Layer {
-    // 1 frames, 2 links, 3 carriers, 4 flight.
-    pub fn number(self) -> u8
-        ensures { result ≡ layer_number self }
-    {
-        match self {
+// The layer's number: 1 frames, 2 links, 3 carriers, 4 flight.
+impl From<Layer> for u8 {
+    ghost from_gives = { λ layer n. n ≡ layer_number layer };
+
+    fn from(layer: Layer) -> u8 {
+        match layer {
             Layer::Frames => 1,
             Layer::Links => 2,
             Layer::Carriers => 3,
             Layer::Flight => 4,
         }
     }
+}
 
+impl Layer {
     // The fault of a refusal by this layer.
     pub fn refuses(self, refusal: Refusal) -> Fault
         ensures { result ≡ record { layer = self; refusal = refusal } }
@@ -85,7 +89,7 @@ impl Layer {
 }
 
 impl Refusal {
-    // The number that stands for the cause.
+    // The number that stands for the cause. A method and no conversion: a number alone does not give its refusal back.
     pub fn number(self) -> u8
         ensures { result ≡ number_of self }
     {
@@ -109,6 +113,17 @@ impl Refusal {
         }
     }
 }
+
+// A fault in words: `refused` and the number of its cause.
+impl fmt::Display for Fault {
+    ghost output = { λ fault. Some (fault_text fault) };
+
+    fn fmt<W: fmt::Write>(&self, f: &mut fmt::Formatter<W>) -> fmt::Result {
+        write!(f, "refused {}", self.refusal.number())
+    }
+}
+
+impl Error for Fault {}
 
 // How many causes there are: their numbers run from 1 to this, and no two refusals have the same number and values.
 pub fn causes() -> u8

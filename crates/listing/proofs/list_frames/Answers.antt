@@ -1,49 +1,23 @@
-use Rattle.std.proofs.Common.{ℕ, ◌+◌, ◌-◌, List, ◌++◌, length, string_bytes, ap, ◌∙◌, arith, rules}
-use Rattle.listing.specs.Text.{frame_text, lines, listing}
-use Rattle.listing.proofs.Captures.{in_order, listed_all, listed_to_end, listed_cut, listed_more}
+use Rattle.std.proofs.Common.{length, string_bytes, arith}
+use Rattle.std.specs.Iterator.Adapters.{enumerate_source, enumerate_count}
+use Rattle.listing.specs.Text.{listing}
+use Rattle.listing.proofs.Captures.{listed_all, listed_more, next_fewer}
 use Rattle.listing.proofs.list_frames.Goals as goal
 
-pub returns-in-End : goal.returns-in-End
-returns-in-End c = record {
-  text =
-      listed_all (string_bytes c.loop-done.out) (length c.args.bytes.now) c.loop-done.done c.loop-done.rest.now (listing c.args.bytes.now)
-      c.loop-done.invariant c.in-End.ensures;
-  order = in_order;
-}
+pub loop-index-preserved : goal.loop-index-preserved
+loop-index-preserved c =
+    let rest = (enumerate_source c.loop-index.index-iterator).rest.now in
+    let after = (enumerate_source c.next.new.self).rest.now in
+    let next = c.in-Some.ensures.steps in
+    let few = next_fewer rest after c.in-Some.captured next.0 in
+    let more = listed_more (string_bytes c.loop-index.out) (length c.args.bytes.now) (enumerate_count c.loop-index.index-iterator) rest after (listing c.args.bytes.now)
+    c.loop-index.invariant.text c.in-Some.captured c.loop-index.invariant.room next.0 in
+    let written = c.in_ok-writeln.ensures.bytes in
+    let entry = c.read_entry.ensures in
+    record { text = cc; room = omega (arith, c.loop-index.invariant.room) }
 
-pub returns-in_err-push_line-in-Cut : goal.returns-in_err-push_line-in-Cut
-returns-in_err-push_line-in-Cut c = record { text = search rules; order = in_order }
-
-pub returns-in_err-text-in-Whole : goal.returns-in_err-text-in-Whole
-returns-in_err-text-in-Whole c = record { text = search rules; order = in_order }
-
-pub returns-in_err-push_line-in-Whole : goal.returns-in_err-push_line-in-Whole
-returns-in_err-push_line-in-Whole c = record { text = search rules; order = in_order }
-
-pub returns-in-Cut : goal.returns-in-Cut
-returns-in-Cut c =
-    let h = c.in-Cut.ensures in
-    record {
-      text =
-          c.in_ok-push_line-in-Cut.ensures
-          ∙ listed_cut (string_bytes c.loop-done.out) (length c.args.bytes.now) c.loop-done.done c.loop-done.rest.now (listing c.args.bytes.now)
-          c.loop-done.invariant (omega arith) h.0 h.1;
-      order = in_order;
-    }
-
-pub loop-done-preserved : goal.loop-done-preserved
-loop-done-preserved c =
-    let h = c.in-Whole.ensures in
-    let d = c.in_ok-text-in-Whole.ensures in
-    ap (λ (l : List ℕ). l ++ lines (length c.args.bytes.now - (c.loop-done.done + 1)) (c.loop-done.done + 1 + 1) c.in-Whole.after.now)
-    c.in_ok-push_line-in-Whole.ensures
-    ∙ listed_more (string_bytes c.loop-done.out) (length c.args.bytes.now) c.loop-done.done c.loop-done.rest.now (listing c.args.bytes.now)
-    c.loop-done.invariant (omega arith) c.as_str.result.now c.in-Whole.after.now h.0 h.1 (c.as_str.ensures.value ∙ d ∙ ap frame_text h.2) h.3
-
-pub returns : goal.returns
-returns c = record {
-  text =
-      listed_to_end (string_bytes c.loop-done.out) (length c.args.bytes.now) c.loop-done.done c.loop-done.rest.now (listing c.args.bytes.now)
-      c.loop-done.invariant (omega arith);
-  order = in_order;
-}
+pub returns-clause-text : goal.returns-clause-text
+returns-clause-text c =
+    listed_all (string_bytes c.loop-index.out) (length c.args.bytes.now) (enumerate_count c.loop-index.index-iterator)
+    (enumerate_source c.loop-index.index-iterator).rest.now (enumerate_source c.next.new.self).rest.now (listing c.args.bytes.now)
+    c.loop-index.invariant.text c.in-None.ensures.steps.0

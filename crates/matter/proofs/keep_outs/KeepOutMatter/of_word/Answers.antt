@@ -12,6 +12,6 @@ returns c =
     let zone : c.args.word / 1099511627776 % 65536 ≡ c.from_be_bytes-zone.result = omega arith in
     let first : c.args.word / 65536 % 16777216 ≡ c.from_be_bytes-first.result = omega arith in
     let minutes : c.args.word / 1 % 65536 ≡ c.from_be_bytes-minutes.result = omega arith in
-    let number : top c.args.word ≡ keep_out.number = t ∙ sym b.at0 ∙ omega arith in
+    let number : top c.args.word ≡ keep_out.number = t ∙ sym b.at0 ∙ search rules in
     let found = ap (λ (n : ℕ). numbered (keep_out ∷ []) n) number in
     made_read (keep_out ∷ []) keep_out (λ _. keep_out) kept_out c.args.word (c.from_be_bytes-zone.result ∷ c.from_be_bytes-first.result ∷ c.from_be_bytes-minutes.result ∷ []) c.new.result (λ m. refl) found (cc) c.new.ensures

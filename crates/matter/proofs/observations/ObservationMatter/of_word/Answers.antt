@@ -13,6 +13,6 @@ returns c =
     let start : c.args.word / 65536 % 16777216 ≡ c.from_be_bytes-start.result = omega arith in
     let seconds : c.args.word / 256 % 256 ≡ get_or c.to_be_bytes.result 6 0 = omega arith in
     let mode : c.args.word / 1 % 256 ≡ get_or c.to_be_bytes.result 7 0 = omega arith in
-    let number : top c.args.word ≡ observation.number = t ∙ sym b.at0 ∙ omega arith in
+    let number : top c.args.word ≡ observation.number = t ∙ sym b.at0 ∙ search rules in
     let found = ap (λ (n : ℕ). numbered (observation ∷ []) n) number in
     made_read (observation ∷ []) observation (λ _. observation) observed c.args.word (c.from_be_bytes-target.result ∷ c.from_be_bytes-start.result ∷ get_or c.to_be_bytes.result 6 0 ∷ get_or c.to_be_bytes.result 7 0 ∷ []) c.new.result (λ m. refl) found (cc) c.new.ensures
