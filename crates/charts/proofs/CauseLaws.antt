@@ -3,16 +3,18 @@
 --   rows_asked      at a right size the rows are asked
 --   row_passes      a row that names rightly is no cause
 --   row_refused     a row that names wrongly is the cause with that row
+--   rows_tested     the first row that names wrongly is what the test of the rows answers
 --   chart_passed    where no cause is answered, the size is right and the rows are sound
 --   chart_refused   an answer says that the size is wrong, or which row is the first that names wrongly
-use Rattle.std.proofs.Common.{◌≡◌, ℕ, ◌<◌, true, false, not, ◌⊎◌, List, length, Some, None, sym, ◌∙◌, inl, inr, ⊎_elim}
+use Rattle.std.proofs.Common.{◌≡◌, ℕ, ◌<◌, ◌≤◌, true, false, not, ◌⊎◌, List, length, Some, None, Option, sym, ◌∙◌, inl, inr, ⊎_elim, arith}
+use Rattle.std.specs.Prelude.{MatchOption}
 use Rattle.std.proofs.lemmas.Bool.{cases_Bool, cases_lt, not-false, not_from_true, not_from_false, cond-true, cond-false}
 use Rattle.std.proofs.lemmas.Bool.Decides.{not_from_Decides}
 use Rattle.refusals.specs.Refusals.{Told, refusal}
 use Rattle.refusals.proofs.FirstCause.{passed}
 use Rattle.charts.specs.Rows.{Right, Sound, FirstWrong, right}
-use Rattle.charts.specs.Causes.{Sized, WrongSize, WrongRow, sized, size_told, row_told, row_cause, row_causes, chart_causes}
-use Rattle.charts.proofs.TurnLaws.{some_none, turn_none, turn_some}
+use Rattle.charts.specs.Causes.{Sized, WrongSize, WrongRow, sized, size_told, row_told, row_cause, row_causes, RowsTested, chart_causes}
+use Rattle.charts.proofs.TurnLaws.{some_none, turn_none, none_turn, turn_at, turn_some}
 use Rattle.charts.proofs.RowLaws.{past_right}
 use Rattle.charts.proofs.RowTests.{decides_sized, decides_right}
 
@@ -34,6 +36,17 @@ module _ (n : ℕ) (rows : List ℕ) (i : ℕ) where
       (λ (r : right n rows i ≡ true). absurd (some_none t (refusal (row_cause n rows i)) e (row_passes r)))
       (λ r. let same : t ≡ row_told i = cc (row_refused r) in (same, not_from_Decides (right n rows i) (decides_right rows i n) r))
       (cases_Bool (right n rows i))
+
+-- the first row that names wrongly, or none, is what the test of the rows answers
+pub rows_tested : (rows : List ℕ) (r : Option ℕ)
+    → MatchOption r ((k : ℕ) → 0 ≤ k → k < length rows → right (length rows) rows k ≡ true)
+    (λ i. (0 ≤ i) × (i < length rows) × (right (length rows) rows i ≡ false) × ((k : ℕ) → 0 ≤ k → k < i → right (length rows) rows k ≡ true))
+    → RowsTested rows r
+rows_tested rows None h = none_turn (row_cause (length rows) rows) (length rows) (λ k l. row_passes (length rows) rows k (h k (omega arith) l))
+rows_tested rows (Some i) h =
+    turn_at (row_cause (length rows) rows) (length rows) i (row_told i) h.1
+    (none_turn (row_cause (length rows) rows) i (λ k l. row_passes (length rows) rows k (h.3 k (omega arith) l)))
+    (row_refused (length rows) rows i h.2)
 
 -- ---- a chart
 

@@ -4,3 +4,4 @@ pub mod RowTests
 pub mod Padding
 pub mod CauseLaws
 pub mod WorkedSizes
+pub mod Ranges

@@ -1,10 +1,10 @@
 -- The tests of rows and sizes decide what they say. Assumes nothing.
 --   decides_sized      the test of the size
 --   decides_answered   the test that who is named names back
---   answered_none, answered_more, answered-not   the same, one craft after the other
+--   decides_tests      the same, by the test of each craft
 --   decides_right      the test of a row
-use Rattle.std.proofs.Common.{◌≡◌, ℕ, ◌+◌, ◌*◌, ◌<◌, ◌≤◌, Bool, true, false, not, ◌||◌, leb, List, get_or, Decides, refl, subst, ⊎_elim, arith, pow_pos, below_more}
-use Rattle.std.proofs.lemmas.Bool.Decides.{Decides-and, Decides-not, Decides-like, Decides-ltb, Decides-below_and, not_from_Decides}
+use Rattle.std.proofs.Common.{◌≡◌, ℕ, ◌*◌, ◌<◌, ◌≤◌, Bool, true, not, ◌||◌, leb, List, get_or, Decides, refl, subst, ⊎_elim, arith, pow_pos}
+use Rattle.std.proofs.lemmas.Bool.Decides.{Decides-and, Decides-not, Decides-like, Decides-ltb, Decides-below_and}
 use Rattle.std.proofs.lemmas.Bool.{cases_Bool, leb-true, le-leb, both_ways, not-true, not_from_false, or_left, or_right, or_cases}
 use Rattle.sets.specs.Sets.{Within, has, below, labels}
 use Rattle.sets.proofs.Bits.{bit_below}
@@ -37,22 +37,11 @@ module _ (rows : List ℕ) (i : ℕ) where
       (λ j. not (has (get_or rows i 0) j) || has (get_or rows j 0) i) (λ j. Linked rows i j → Linked rows j i) (answered rows i)
       (λ j. decides_if _ _ (has_decides (get_or rows i 0) j) (has_decides (get_or rows j 0) i)) refl (λ _. refl) k
 
-  pub answered_none : answered rows i 0 ≡ true
+  pub decides_tests : (k : ℕ) → Decides (answered rows i k) ((j : ℕ) → j < k → (not (has (get_or rows i 0) j) || has (get_or rows j 0) i) ≡ true)
   unfolding answered
-  answered_none = refl
-
-  -- one craft more, not named or naming back
-  pub answered_more : (j : ℕ) → answered rows i j ≡ true → (has (get_or rows i 0) j ≡ true → has (get_or rows j 0) i ≡ true)
-      → answered rows i (j + 1) ≡ true
-  answered_more j h t = (decides_answered (j + 1)).1 (below_more (λ k. Linked rows i k → Linked rows k i) j ((decides_answered j).0 h)
-      (λ l. (has_decides (get_or rows j 0) i).0 (t ((has_decides (get_or rows i 0) j).1 l))))
-
-  -- one that is named and does not name back
-  pub answered-not : (k j : ℕ) → j < k → has (get_or rows i 0) j ≡ true → has (get_or rows j 0) i ≡ false → answered rows i k ≡ false
-  answered-not k j l p q = ⊎_elim
-      (λ (h : answered rows i k ≡ true).
-      absurd (not_from_Decides _ (has_decides (get_or rows j 0) i) q ((decides_answered k).0 h j l ((has_decides (get_or rows i 0) j).0 p))))
-      (λ h. h) (cases_Bool (answered rows i k))
+  decides_tests k = Decides-below_and
+      (λ j. not (has (get_or rows i 0) j) || has (get_or rows j 0) i) (λ j. (not (has (get_or rows i 0) j) || has (get_or rows j 0) i) ≡ true)
+      (answered rows i) (λ j. (λ e. e, λ e. e)) refl (λ _. refl) k
 
   right-parts : (n : ℕ) → Within (get_or rows i 0) (below n) × ((Linked rows i i → ⊥) × ((j : ℕ) → j < n → Linked rows i j → Linked rows j i))
       → Right n rows i

@@ -6,7 +6,8 @@ ghost use Rattle.charts.specs.Rows.{Apart, Bounded, Mutual};
 use sets::CraftSet;
 
 // Of n craft, row i is the set of the neighbours of craft i; rows at or past n are empty.
-#[derive(Clone, Copy)]
+// An array and the number of rows, in fixed memory: so a chart is Copy, which a vector of fixed capacity is not.
+#[derive(Clone, Copy, PartialEq, Eq, Debug)]
 pub struct Chart {
     pub n: u8,
     pub rows: [CraftSet; 8],

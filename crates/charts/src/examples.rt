@@ -11,10 +11,7 @@ use sets::CraftSet;
 fn is_chart(rows: &[CraftSet], f: u8) -> bool
     ensures { result ≡ not (is_some (refusal (chart_causes rows.now f))) }
 {
-    match Chart::new(rows, f) {
-        Ok(_) => true,
-        Err(_) => false,
-    }
+    Chart::new(rows, f).is_ok()
 }
 
 // With two craft faulty, seven that are all linked with one another make a chart, and six do not, whatever their rows.

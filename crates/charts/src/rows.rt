@@ -8,20 +8,17 @@ use sets::{CraftSet, all_below, contains, is_within};
 
 // Whether every craft that row i names, names i.
 fn is_answered(rows: &[CraftSet], i: u8) -> bool
-    requires { (length rows.now ≤ labels) × (i < length rows.now) }
+    requires few { length rows.now ≤ labels }
+    requires there { i < length rows.now }
     ensures { result ≡ answered rows.now i (length rows.now) }
 {
-    for j in 0..rows.len() as u8 {
-        if contains(rows[i as usize], j) && !contains(rows[j as usize], i) {
-            return false;
-        }
-    }
-    true
+    (0..rows.len() as u8).all(|j| !contains(rows[i as usize], j) || contains(rows[j as usize], i))
 }
 
 // Whether row i names neither its own craft nor a label that no craft has, and every craft that it names, names i.
 fn is_right(rows: &[CraftSet], i: u8) -> bool
-    requires { (length rows.now ≤ labels) × (i < length rows.now) }
+    requires few { length rows.now ≤ labels }
+    requires there { i < length rows.now }
     ensures { result ≡ right (length rows.now) rows.now i }
 {
     let row = rows[i as usize];
@@ -33,10 +30,5 @@ pub(crate) fn wrong_row(rows: &[CraftSet]) -> Option<u8>
     requires { length rows.now ≤ labels }
     ensures { RowsTested rows.now result }
 {
-    for i in 0..rows.len() as u8 {
-        if !is_right(rows, i) {
-            return Some(i);
-        }
-    }
-    None
+    (0..rows.len() as u8).find(|i| !is_right(rows, *i))
 }

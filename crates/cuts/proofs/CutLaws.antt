@@ -7,12 +7,12 @@
 --   all_but_low, all_but_high, in_all_but, all_but_lt   who is of the others
 --   all_but_code    the others as the code takes them
 --   cut_unlinked    a set of others never parts linked craft
-use Rattle.std.proofs.Common.{◌≡◌, ℕ, ◌-◌, ◌^◌, ◌<◌, ◌≤◌, min, Bool, true, false, leb, List, Some, None, Decides, ap, ◌∙◌, ⊎_elim, arith, pow_pos}
-use Rattle.std.proofs.lemmas.Bool.{cases_Bool, cond-true, cond-false, leb-true, le-leb}
+use Rattle.std.proofs.Common.{◌≡◌, ℕ, ◌-◌, ◌^◌, ◌<◌, ◌≤◌, min, Bool, true, false, leb, List, Some, None, Decides, sym, ap, ◌∙◌, ⊎_elim, arith, pow_pos}
+use Rattle.std.proofs.lemmas.Bool.{cases_Bool, cases_lt, cond-true, cond-false, leb-true, le-leb}
 use Rattle.std.proofs.lemmas.Bool.Decides.{Decides-and, Decides-like, not_from_Decides}
 use Rattle.sets.specs.Sets.{labels, bit, In, less, only, one_of, below, count}
-use Rattle.sets.proofs.Bits.{bit_le, bit-less, bit-only, bit-only_other, bit_below}
-use Rattle.sets.proofs.Members.{inside_decides, within_lt, one_of-below}
+use Rattle.sets.proofs.Bits.{bit_le, bit-less, bit-only, bit-only_other, bit_below, bit_past}
+use Rattle.sets.proofs.Members.{inside_decides, within_lt, less_within, less_none, less-only_none, one_of-below, one_of_past}
 use Rattle.refusals.specs.Refusals.{Told, refusal}
 use Rattle.refusals.proofs.FirstCause.{passed}
 use Rattle.charts.specs.Rows.{Linked}
@@ -80,13 +80,21 @@ module _ (n u v : ℕ) where
   pub all_but_lt : all_but n u v < 2 ^ n
   all_but_lt = within_lt n (all_but n u v) (below n) (λ i. omega (arith, bit-all_but i)) (omega (arith, pow_pos n))
 
-  pub all_but_code : n ≤ labels → u < n → v < n → less (less (below (min n labels)) (one_of labels u)) (one_of labels v) ≡ all_but n u v
+  -- a label that no craft has is not among the craft below n
+  less_label : (s i : ℕ) → n ≤ labels → s < 2 ^ n → less s (one_of labels i) ≡ less s (only i)
+  less_label s i h l = ⊎_elim
+      (λ (b : i < labels). ap (λ (x : ℕ). less s x) (one_of-below labels i b))
+      (λ b. ap (λ (x : ℕ). less s x) (one_of_past labels i b) ∙ less_none s ∙ sym (less-only_none s i (bit_past n s i l (omega arith))))
+      (cases_lt i labels)
+
+  pub all_but_code : n ≤ labels → less (less (below (min n labels)) (one_of labels u)) (one_of labels v) ≡ all_but n u v
   unfolding all_but
-  all_but_code h l k =
+  all_but_code h =
       let e : min n labels ≡ n = omega arith in
+      let l : below n < 2 ^ n = omega (arith, pow_pos n) in
       ap (λ (x : ℕ). less (less (below x) (one_of labels u)) (one_of labels v)) e
-      ∙ ap (λ (x : ℕ). less (less (below n) x) (one_of labels v)) (one_of-below labels u (omega arith))
-      ∙ ap (λ (x : ℕ). less (less (below n) (only u)) x) (one_of-below labels v (omega arith))
+      ∙ ap (λ (x : ℕ). less x (one_of labels v)) (less_label (below n) u h l)
+      ∙ less_label (less (below n) (only u)) v h (within_lt n (less (below n) (only u)) (below n) (less_within (below n) (only u)) l)
 
 pub cut_unlinked : (n : ℕ) (rows : List ℕ) (most u v s : ℕ) → Cut (Parts rows u v) (all_but n u v) most s → Linked rows u v → ⊥
 cut_unlinked n rows most u v s c l =

@@ -9,3 +9,5 @@ pub mod PassedLaws
 pub mod SameRows
 pub mod OpenLaws
 pub mod WorkedCharts
+pub mod TellLaws
+pub mod FoldLaws

@@ -5,7 +5,8 @@ ghost use Rattle.cuts.specs.Complete.{Complete};
 use charts::Chart;
 
 // Every two craft are linked.
-#[derive(Clone, Copy)]
+// A type apart from PassedChart, since the two promise different facts of the chart.
+#[derive(Clone, Copy, PartialEq, Eq, Debug)]
 pub struct CompleteChart {
     pub chart: Chart,
     pub f: u8,

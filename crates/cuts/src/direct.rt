@@ -1,52 +1,33 @@
 // The test of a chart for direct hearing: every two craft are linked.
 ghost use Rattle.std.specs.Prelude.{◌≡◌, ◌*◌, ◌<◌, is_ok, Decides};
-ghost use Rattle.cuts.specs.Pairs.{above, in_pairs};
 ghost use Rattle.cuts.specs.Complete.{Complete};
 ghost use Rattle.cuts.specs.Causes.{unlinked_cause};
 ghost use Rattle.cuts.specs.Tested.{Tested, DirectTested, DirectOpened};
 
 use crate::complete::CompleteChart;
-use crate::size::is_enough;
+use crate::pairs::test_pairs;
 use charts::Chart;
-use refusals::{Fault, Layer, Refusal};
+use refusals::{Fault, Refusal};
 use sets::CraftSet;
 
-// The first craft above u that is not linked with u.
-fn unlinked_above(chart: &Chart, u: u8) -> Option<Refusal>
-    requires { u < chart.now.n }
-    ensures { Tested (above (unlinked_cause chart.now.rows u) u chart.now.n) result }
+// Why two craft are refused: they are not linked.
+fn unlinked(chart: &Chart, u: u8, v: u8) -> Option<Refusal>
+    ensures { Tested (unlinked_cause chart.now.rows u v) result }
 {
-    for v in u + 1..chart.n {
-        if !chart.linked(u, v) {
-            return Some(Refusal::Thin(u, v, 0));
-        }
+    if chart.linked(u, v) {
+        None
+    } else {
+        Some(Refusal::Thin(u, v, 0))
     }
-    None
 }
 
-// The first pair that is not linked.
-fn first_unlinked(chart: &Chart) -> Option<Refusal>
-    ensures { Tested (in_pairs (unlinked_cause chart.now.rows) chart.now.n chart.now.n) result }
-{
-    for u in 0..chart.n {
-        if let Some(refusal) = unlinked_above(chart, u) {
-            return Some(refusal);
-        }
-    }
-    None
-}
-
+// Apart from the relay's test, since what a chart that passes promises is another fact, in a type of its own.
 // Refused by 2 with n, unless n is above 3f; by 4 with the first pair that is not linked, and the empty set.
 pub fn direct_test(chart: Chart, f: u8) -> Result<CompleteChart, Fault>
     ensures answer { DirectTested chart f result }
     ensures meaning { Decides (is_ok result) ((3 * f < chart.n) × Complete chart.n chart.rows) }
 {
-    if !is_enough(chart.n, f) {
-        return Err(Layer::Carriers.refuses(Refusal::Size(usize::from(chart.n))));
-    }
-    if let Some(refusal) = first_unlinked(&chart) {
-        return Err(Layer::Carriers.refuses(refusal));
-    }
+    test_pairs(chart.n, f, |u, v| unlinked(&chart, u, v))?;
     Ok(CompleteChart { chart, f })
 }
 

@@ -4,6 +4,7 @@
 pub mod complete;
 pub mod direct;
 pub mod examples;
+mod pairs;
 pub mod passed;
 pub mod reach;
 pub mod relay;

@@ -5,7 +5,8 @@ ghost use Rattle.cuts.specs.Cuts.{Passed};
 use charts::Chart;
 
 // No set of at most 2f others parts two craft.
-#[derive(Clone, Copy)]
+// A type apart from CompleteChart, since the two promise different facts of the chart.
+#[derive(Clone, Copy, PartialEq, Eq, Debug)]
 pub struct PassedChart {
     pub chart: Chart,
     pub f: u8,

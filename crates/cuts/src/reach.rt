@@ -1,32 +1,18 @@
 // What walks lead to.
 ghost use Rattle.std.specs.Prelude.{◌≡◌, ℕ, ◌<◌, ◌≤◌, true, ◌⊎◌, Decides};
-ghost use Rattle.sets.specs.Sets.{labels, In, one_of};
+ghost use Rattle.sets.specs.Sets.{In};
 ghost use Rattle.cuts.specs.Walks.{Joined, Parts};
 ghost use Rattle.cuts.specs.Reach.{around, reached, parted};
 ghost use Rattle.cuts.specs.Laws.{ReachedByWalks};
 
 use charts::Chart;
-use sets::{CraftSet, contains, minus, single};
+use sets::{CraftSet, all_below, contains, members_of, minus, single};
 
 // The neighbours of the members of the set.
 fn neighbours_of(chart: &Chart, set: CraftSet) -> CraftSet
     ensures { result ≡ around chart.now.rows set chart.now.n }
 {
-    let mut found = 0;
-    for i in 0..chart.n {
-        if contains(set, i) {
-            found |= chart.row(i);
-        }
-    }
-    found
-}
-
-// The set of this craft alone; the empty set where none of n craft has the label.
-fn craft_alone(n: u8, craft: u8) -> CraftSet
-    requires { n ≤ labels }
-    ensures { result ≡ one_of n craft }
-{
-    if craft < n { single(craft) } else { 0 }
+    members_of(set).fold(0, |found, i| found | chart.row(i))
 }
 
 // The craft that walks outside the avoided set lead to: the closure, after n - 1 rounds. None where no craft has the label.
@@ -35,11 +21,11 @@ pub fn reached_by_walks(chart: &Chart, from: u8, avoid: CraftSet) -> CraftSet
     ensures members { (v : ℕ) → (In v result → Joined chart.now.n chart.now.rows avoid from v) × (Joined chart.now.n chart.now.rows avoid from v → In v result) }
     ensures law { ReachedByWalks }
 {
-    let mut found = minus(craft_alone(chart.n, from), avoid);
-    for round in 0..chart.n - 1 {
-        found = minus(found | neighbours_of(chart, found), avoid);
-    }
-    found
+    let start = minus(single(from) & all_below(chart.n), avoid);
+    (0..chart.n - 1).fold(
+        start,
+        |found, _| minus(found | neighbours_of(chart, found), avoid),
+    )
 }
 
 // Whether no walk outside the avoided set leads from u to v. A label that no craft has is reached by nobody.

@@ -3,24 +3,20 @@ ghost use Rattle.std.specs.Prelude.{◌≡◌, ◌*◌, ◌<◌, is_ok, Decides}
 ghost use Rattle.cuts.specs.Cuts.{Passed};
 ghost use Rattle.cuts.specs.Tested.{RelayTested, RelayOpened};
 
+use crate::pairs::test_pairs;
 use crate::passed::PassedChart;
-use crate::search::first_thin;
-use crate::size::is_enough;
+use crate::search::thin;
 use charts::Chart;
-use refusals::{Fault, Layer, Refusal};
+use refusals::Fault;
 use sets::CraftSet;
 
+// Apart from the test for direct hearing, since what a chart that passes promises is another fact, in a type of its own.
 // Refused by 2 with n, unless n is above 3f; by 4 with the first pair that a set of at most 2f others parts, and the lowest such set.
 pub fn relay_test(chart: Chart, f: u8) -> Result<PassedChart, Fault>
     ensures answer { RelayTested chart f result }
     ensures meaning { Decides (is_ok result) ((3 * f < chart.n) × Passed chart.n f chart.rows) }
 {
-    if !is_enough(chart.n, f) {
-        return Err(Layer::Carriers.refuses(Refusal::Size(usize::from(chart.n))));
-    }
-    if let Some(refusal) = first_thin(&chart, 2 * f) {
-        return Err(Layer::Carriers.refuses(refusal));
-    }
+    test_pairs(chart.n, f, |u, v| thin(&chart, 2 * f, u, v))?;
     Ok(PassedChart { chart, f })
 }
 
