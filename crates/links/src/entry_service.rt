@@ -11,7 +11,7 @@ use crate::service::LinkService;
 use charts::Chart;
 use frames::Frame;
 use refusals::{Fault, Layer, Refusal};
-use sets::{CraftSet, LABELS, contains};
+use sets::{CraftSet, count, members_of};
 
 // Writes an entry for each craft of the set, ascending, from a place on, and answers the place after them.
 fn append(list: &mut [Entry], at: usize, from: u8, set: CraftSet, frame: Frame) -> usize
@@ -19,14 +19,10 @@ fn append(list: &mut [Entry], at: usize, from: u8, set: CraftSet, frame: Frame) 
     ensures len { result ≡ at + length (sent from set frame) }
     ensures items { take result list.new ≡ take at list.old ++ sent from set frame }
 {
-    let mut len = at;
-    for to in 0..LABELS {
-        if contains(set, to) {
-            list[len] = Entry { from, to, frame };
-            len += 1;
-        }
+    for (i, to) in members_of(set).enumerate() {
+        list[at + i] = Entry { from, to, frame };
     }
-    len
+    at + count(set) as usize
 }
 
 impl EntryList<'_> {
