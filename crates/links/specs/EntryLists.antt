@@ -6,7 +6,7 @@
 use Rattle.std.specs.Prelude.{◌≡◌, ℕ, ◌-◌, ◌/◌, [], length, take}
 use Rattle.std.proofs.Common.{ap, arith, length-take}
 use Rattle.links.specs.declared.entry_list.EntryList.{EntryList}
-use Rattle.links.specs.Meanings.{Meaning, Laws}
+use Rattle.links.specs.Meanings.{Meaning, Laws, started_rows}
 
 abbrev pub list_length : ℕ
 list_length = 1008
@@ -16,7 +16,7 @@ fan_out = 7
 
 abbrev pub means : EntryList → Meaning
 means e = record {
-  rows = take e.n e.rows;
+  rows = started_rows e.chart;
   waiting = take e.len e.list.now;
   spare = (length e.list.now - e.len) / fan_out;
   capacity = length e.list.now / fan_out;

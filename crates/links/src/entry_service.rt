@@ -5,13 +5,13 @@ ghost use Rattle.links.specs.EntryLists.{list_length, means, list_laws};
 
 use crate::entries::Entry;
 use crate::entry_list::EntryList;
-use crate::judge::{judge_put, row_at, rows_of};
+use crate::judge::judge_put;
 use crate::removal::remove_at;
 use crate::service::LinkService;
 use charts::Chart;
 use frames::Frame;
 use refusals::{Fault, Layer, Refusal};
-use sets::{CraftSet, LABELS, contains};
+use sets::{CraftSet, count, members_of};
 
 // Writes an entry for each craft of the set, ascending, from a place on, and answers the place after them.
 fn append(list: &mut [Entry], at: usize, from: u8, set: CraftSet, frame: Frame) -> usize
@@ -19,14 +19,10 @@ fn append(list: &mut [Entry], at: usize, from: u8, set: CraftSet, frame: Frame) 
     ensures len { result ≡ at + length (sent from set frame) }
     ensures items { take result list.new ≡ take at list.old ++ sent from set frame }
 {
-    let mut len = at;
-    for to in 0..LABELS {
-        if contains(set, to) {
-            list[len] = Entry { from, to, frame };
-            len += 1;
-        }
+    for (i, to) in members_of(set).enumerate() {
+        list[at + i] = Entry { from, to, frame };
     }
-    len
+    at + count(set) as usize
 }
 
 impl EntryList<'_> {
@@ -43,8 +39,7 @@ impl EntryList<'_> {
     {
         let used = list.len().min(EntryList::LENGTH);
         EntryList {
-            rows: [0; 8],
-            n: 0,
+            chart: None,
             list: &mut list[0..used],
             len: 0,
         }
@@ -60,28 +55,23 @@ impl LinkService for EntryList<'_> {
         if self.list.len() < EntryList::LENGTH {
             return Err(Layer::Links.refuses(Refusal::Short(EntryList::LENGTH)));
         }
-        let rows = chart.rows;
-        self.rows = rows;
-        self.n = chart.n;
+        self.chart = Some(*chart);
         self.len = 0;
         Ok(())
     }
 
     fn put(&mut self, from: u8, set: CraftSet, frame: Frame) -> Result<(), Fault> {
         let spare = self.spare();
-        judge_put(rows_of(&self.rows, self.n), spare, from, set)?;
-        let at = self.len;
-        let end = append(self.list, at, from, set, frame);
-        self.len = end;
+        judge_put(self.chart, spare, from, set)?;
+        self.len = append(self.list, self.len, from, set, frame);
         Ok(())
     }
 
     fn take(&mut self, k: usize) -> Result<Entry, Fault> {
         let n = self.waiting();
-        if k >= n {
-            return Err(Layer::Links.refuses(Refusal::Index(n)));
-        }
-        let taken = self.list[k];
+        let taken = self
+            .entry(k)
+            .ok_or(Layer::Links.refuses(Refusal::Index(n)))?;
         remove_at(self.list, k, n);
         self.len = n - 1;
         Ok(taken)
@@ -96,18 +86,14 @@ impl LinkService for EntryList<'_> {
     }
 
     fn entry(&self, k: usize) -> Option<Entry> {
-        if k < self.waiting() {
-            Some(self.list[k])
-        } else {
-            None
-        }
+        self.list[..self.waiting()].get(k).copied()
     }
 
     fn craft(&self) -> usize {
-        rows_of(&self.rows, self.n).len()
+        self.chart.map_or(0, |chart| usize::from(chart.n))
     }
 
     fn row(&self, craft: u8) -> CraftSet {
-        row_at(rows_of(&self.rows, self.n), craft)
+        self.chart.map_or(0, |chart| chart.row(craft))
     }
 }

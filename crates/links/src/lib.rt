@@ -12,6 +12,6 @@ pub mod service;
 pub use entries::Entry;
 pub use entry_list::EntryList;
 pub use forwarding::forward;
-pub use judge::{judge_put, row_at, rows_of};
+pub use judge::judge_put;
 pub use removal::remove_at;
 pub use service::LinkService;

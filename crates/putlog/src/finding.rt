@@ -1,103 +1,47 @@
-// Where an entry stands among the puts of a log.
-ghost use Rattle.std.specs.Prelude.{◌≡◌, ℕ, ◌+◌, ◌<◌, ◌≤◌, true, List, length, take, slice_index_or};
+// Where the entries stand among the puts of a log.
+ghost use Rattle.std.specs.Prelude.{◌≡◌, ℕ, ◌<◌, ◌≤◌, length};
 ghost use Rattle.std.specs.List.{remove};
-ghost use Rattle.sets.specs.Sets.{labels, has, each};
-ghost use Rattle.putlog.specs.Puts.{log_length, all_entries, Open};
+ghost use Rattle.putlog.specs.Puts.{log_length, all_entries, Open, StandsAt, Found};
 
 use crate::puts::LoggedPut;
-use links::{Entry, remove_at};
-use sets::{CraftSet, LABELS, contains, count, without};
+use arrayvec::ArrayVec;
+use links::Entry;
+use sets::{count, members_of, without};
 
 // How many entries the puts stand for.
 pub(crate) fn entries(puts: &[LoggedPut]) -> usize
     requires { length puts.now ≤ log_length }
     ensures { result ≡ length (all_entries puts.now) }
 {
-    let mut n = 0;
-    for put in puts {
-        n += count(put.to) as usize;
-    }
-    n
+    puts.iter().map(|put| count(put.to) as usize).sum()
 }
 
-// The put of entry k, and how many entries of that put stand before it.
-fn find(puts: &[LoggedPut], k: usize) -> (usize, usize)
-    requires { k < length (all_entries puts.now) }
-    ensures within { result.0 < length puts.now }
-    ensures before { length (all_entries (take result.0 puts.now)) + result.1 ≡ k }
-    ensures after { k < length (all_entries (take (result.0 + 1) puts.now)) }
+// Entry k, and the place of its put; none where no more than k wait.
+pub(crate) fn find(puts: &[LoggedPut], k: usize) -> Option<(usize, Entry)>
+    ensures { Found puts.now k result }
 {
     let mut left = k;
     for (i, put) in puts.iter().enumerate() {
-        let n = count(put.to) as usize;
-        if left < n {
-            return (i, left);
+        if let Some(to) = members_of(put.to).nth(left) {
+            return Some((i, put.entry(to)));
         }
-        left -= n;
+        left -= count(put.to) as usize;
     }
-    unreachable()
+    None
 }
 
-// The craft of the set that has j lower ones in it.
-fn nth(set: CraftSet, j: usize) -> u8
-    requires { j < length (each (λ i. i) set labels) }
-    ensures label { result < labels }
-    ensures inside { has set result ≡ true }
-    ensures below { length (each (λ i. i) set result) ≡ j }
+// Takes a craft out of put i. A put that no craft is left to take goes.
+pub(crate) fn strike(puts: &mut ArrayVec<LoggedPut, 128>, i: usize, to: u8)
+    requires { i < length puts.old.items }
+    ensures rest { (k : ℕ) → StandsAt puts.old.items k i to → all_entries puts.new.items ≡ remove (all_entries puts.old.items) k }
+    ensures no_more { length puts.new.items ≤ length puts.old.items }
+    ensures unspent { Open puts.old.items → Open puts.new.items }
 {
-    let mut seen = 0;
-    for craft in 0..LABELS {
-        if contains(set, craft) {
-            if seen == j {
-                return craft;
-            }
-            seen += 1;
-        }
-    }
-    unreachable()
-}
-
-// The entry at k, which waits.
-pub(crate) fn entry_at(puts: &[LoggedPut], k: usize) -> Entry
-    requires { k < length (all_entries puts.now) }
-    ensures { slice_index_or (all_entries puts.now) k result ≡ result }
-{
-    let (i, j) = find(puts, k);
     let put = puts[i];
-    let to = nth(put.to, j);
-    Entry {
-        frame: put.frame,
-        from: put.from,
-        to,
-    }
-}
-
-// Takes entry k out of what the puts stand for. Answers it, and how many puts are left, which stand first and in their order.
-pub(crate) fn strike(puts: &mut [LoggedPut], k: usize) -> (Entry, usize)
-    requires { k < length (all_entries puts.old) }
-    ensures entry { slice_index_or (all_entries puts.old) k result.0 ≡ result.0 }
-    ensures left { result.1 ≤ length puts.old }
-    ensures rest { all_entries (take result.1 puts.new) ≡ remove (all_entries puts.old) k }
-    ensures unspent { Open puts.old → Open (take result.1 puts.new) }
-{
-    let n = puts.len();
-    let (i, j) = find(puts, k);
-    let put = puts[i];
-    let to = nth(put.to, j);
     let left = without(put.to, to);
-    let entry = Entry {
-        frame: put.frame,
-        from: put.from,
-        to,
-    };
     if left == 0 {
-        remove_at(puts, i, n);
-        return (entry, n - 1);
+        puts.remove(i);
+    } else {
+        puts[i] = LoggedPut { to: left, ..put };
     }
-    puts[i] = LoggedPut {
-        frame: put.frame,
-        from: put.from,
-        to: left,
-    };
-    (entry, n)
 }

@@ -1,17 +1,14 @@
 // A put log: the puts that some craft is still to take, in the order in which they were made.
-ghost use Rattle.std.specs.Prelude.{◌≡◌, ◌≤◌, length, take};
-ghost use Rattle.putlog.specs.Puts.{log_length, Open};
+ghost use Rattle.putlog.specs.Puts.{Open};
 
 use crate::puts::LoggedPut;
-use sets::CraftSet;
+use arrayvec::ArrayVec;
+use charts::Chart;
 
 #[derive(Drop)]
 pub struct PutLog {
-    pub(crate) puts: [LoggedPut; 128],
-    pub(crate) used: usize,
-    pub(crate) rows: [CraftSet; 8],
-    pub(crate) n: u8,
-    ghost sized: { length puts ≡ log_length },
-    ghost within: { used ≤ log_length },
-    ghost unspent: { ∥ Open (take used puts) ∥₁ },
+    // none before the start
+    pub(crate) chart: Option<Chart>,
+    pub(crate) puts: ArrayVec<LoggedPut, 128>,
+    ghost unspent: { ∥ Open puts.items ∥₁ },
 }

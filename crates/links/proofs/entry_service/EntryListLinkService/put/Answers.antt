@@ -2,27 +2,27 @@ use Rattle.std.proofs.Common.{ℕ, ◌/◌, refl, ap, arith}
 use Rattle.std.proofs.lemmas.Result.{err_from_is_err_and}
 use Rattle.sets.proofs.Each.{each_few}
 use Rattle.links.specs.EntryLists.{fan_out}
-use Rattle.links.specs.Meanings.{entry_to}
-use Rattle.links.proofs.Judged.{accepted}
+use Rattle.links.specs.Meanings.{entry_to, started_rows}
+use Rattle.links.proofs.Judged.{accepted, few_craft}
 use Rattle.links.proofs.entry_service.EntryListLinkService.put.Goals as goal
 
 pub returns-in_err-judge_put : goal.returns-in_err-judge_put
 returns-in_err-judge_put c =
     let p = err_from_is_err_and c.from_residual.result c.from_residual.ensures.1 in
-    rw (p.1, p.2) (rw (c.spare-spare.ensures, c.rows_of.ensures.rows) at c.in_err-judge_put.ensures, refl)
+    rw (p.1, p.2) (rw c.spare-spare.ensures at c.in_err-judge_put.ensures, refl)
 
-pub append-end-requires : goal.append-end-requires
-append-end-requires c =
-    let a = accepted c.rows_of.result.now c.spare-spare.result c.args.from c.args.set c.in_ok-judge_put.ensures in
-    omega (arith, each_few (entry_to c.args.from c.args.frame) c.args.set c.args.from 8 a.0.apart (omega arith))
+pub append-self-requires : goal.append-self-requires
+append-self-requires c =
+    let a = accepted (started_rows c.args.self.now.chart) c.spare-spare.result c.args.from c.args.set c.in_ok-judge_put.ensures in
+    omega (arith, each_few (entry_to c.args.from c.args.frame) c.args.set c.args.from 8 a.0.apart (omega (arith, few_craft c.args.self.now.chart)))
 
 pub returns : goal.returns
 returns c =
-    let a = accepted c.rows_of.result.now c.spare-spare.result c.args.from c.args.set c.in_ok-judge_put.ensures in
-    let few = each_few (entry_to c.args.from c.args.frame) c.args.set c.args.from 8 a.0.apart (omega arith) in
+    let a = accepted (started_rows c.args.self.now.chart) c.spare-spare.result c.args.from c.args.set c.in_ok-judge_put.ensures in
+    let few = each_few (entry_to c.args.from c.args.frame) c.args.set c.args.from 8 a.0.apart (omega (arith, few_craft c.args.self.now.chart)) in
     record {
-      accepted = rw (c.spare-spare.ensures, c.rows_of.ensures.rows) at c.in_ok-judge_put.ensures;
-      waiting = c.append-end.ensures.items;
+      accepted = rw c.spare-spare.ensures at c.in_ok-judge_put.ensures;
+      waiting = c.append-self.ensures.items;
       spare = omega arith;
-      kept = record { rows = refl; capacity = ap (λ (i : ℕ). i / fan_out) c.append-end.auto.list; lent = c.append-end.auto.list; needed = refl };
+      kept = record { rows = refl; capacity = ap (λ (i : ℕ). i / fan_out) c.append-self.auto.list; lent = c.append-self.auto.list; needed = refl };
     }
