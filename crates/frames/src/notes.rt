@@ -8,8 +8,9 @@ use sets::CraftSet;
 pub const LAST_NUMBER: u8 = 3;
 
 // The steps of Bracha's broadcast.
-#[derive(Clone, Copy, PartialEq, Eq, Debug)]
+#[derive(Clone, Copy, PartialEq, Eq, Debug, Default)]
 pub enum Step {
+    #[default]
     Send,
     Echo,
     Ready,
@@ -17,7 +18,7 @@ pub enum Step {
 
 // What a craft says: a step, the craft whose order it is about (the origin), that order's number, and its content word.
 // Fields lie in memory as they stand here: the widest goes first, here and below, so that no room is lost between them.
-#[derive(Clone, Copy, PartialEq, Eq, Debug)]
+#[derive(Clone, Copy, PartialEq, Eq, Debug, Default)]
 pub struct Note {
     pub content: u64,
     pub step: Step,
@@ -26,7 +27,7 @@ pub struct Note {
 }
 
 // A note on its way: who says it (the author), the note, and the set of craft that it is said to have come through.
-#[derive(Clone, Copy, PartialEq, Eq, Debug)]
+#[derive(Clone, Copy, PartialEq, Eq, Debug, Default)]
 pub struct Frame {
     pub note: Note,
     pub author: u8,
