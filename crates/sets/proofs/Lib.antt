@@ -6,3 +6,4 @@ pub mod Each
 pub mod Passing
 pub mod Quorums
 pub mod Removed
+pub mod FirstMember

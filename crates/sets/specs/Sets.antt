@@ -17,6 +17,7 @@
 --   count       how many members a set has
 --   others      how many members of s are other than k
 --   each        f of each craft of s below n, ascending
+--   members_of  the members of s, ascending
 --   passing     the craft below n that pass a test
 use Rattle.std.specs.Prelude.{◌≡◌, ℕ, zero, suc, ◌-◌, ◌/◌, ◌%◌, ◌^◌, ◌≤◌, Bool, cond, not, List, [], ◌∷◌, ◌++◌, ◌==◌, bit_and, bit_or, count_ones, nat_lt}
 
@@ -76,6 +77,9 @@ others k s = cond (has s k) (count s - 1) (count s)
 unfoldable pub each : {X : Type 0} → (ℕ → X) → ℕ → ℕ → List X
 each f s zero = []
 each f s (suc n) = each f s n ++ cond (has s n) (f n ∷ []) []
+
+abbrev pub members_of : ℕ → List ℕ
+members_of s = each (λ i. i) s labels
 
 unfoldable pub passing : ℕ → (ℕ → Bool) → ℕ
 passing zero P = 0

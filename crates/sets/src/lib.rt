@@ -5,7 +5,11 @@ ghost use Rattle.std.specs.Prelude.{◌≡◌, ℕ, ◌+◌, ◌-◌, ◌<◌, m
 ghost use Rattle.sets.specs.Quorums.{quorum, Counting};
 ghost use Rattle.sets.specs.Sets.{labels, In, IsLowest, has, inside, meeting, union, shared, less, only, one_of, below, count, others};
 
-// A set of craft, one bit for each label.
+mod iter;
+
+pub use iter::{Ascending, members_of};
+
+// A set of craft, one bit for each label. An alias and no type of its own: every clause reads a set as the number itself.
 pub type CraftSet = u8;
 
 // How many labels there are, 0 to 7, and so the most craft that a flight has.
