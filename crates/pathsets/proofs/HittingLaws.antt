@@ -1,23 +1,26 @@
 -- Hitting sets: the test, its meaning, and the search by recursion. Assumes nothing.
---   meets_all, meets_none   what the code's test of two sets says
 --   hittable_decides   the sets that are tried are enough
 --   with_none        with no craft chosen yet, the search decides whether the family can be hit
 --   no_members       a set that counts nothing is empty
 --   hit_met, hit_stuck, hit_back, hit_on   the turns of the search: all met; none allowed; a craft chosen, and back
---   tried_more       the craft of a set that are tried: one more
+--   turn_member, turns_done   the turns at the members of a set: each is a member, and in the end each had a turn
+--   unmet            the first set that has no craft of c; if there is none, c hits all
 --   heard_empty      a family with the empty set cannot be hit
 --   none_hit         no craft at all hit no set
-use Rattle.std.proofs.Common.{◌≡◌, ℕ, suc, ◌+◌, ◌<◌, ◌≤◌, Bool, true, false, ◌&&◌, leb, List, [], ◌∷◌, Decides, sym, refl, ap, ◌∙◌, subst, ⊎_elim, arith}
+use Rattle.std.proofs.Common.{◌≡◌, ℕ, suc, ◌+◌, ◌^◌, ◌<◌, ◌≤◌, Bool, true, false, ◌&&◌, not, leb, List, [], ◌∷◌, ◌++◌, Decides, Option, None, Some, MatchOption, sym, refl, ap, ◌∙◌, subst, ⊎_elim, arith}
 use lib.Bits.{and_le_r, or_zero_r, or_zero_l}
-use Rattle.std.specs.List.{ContainsAt as Has, AllByRecursion}
-use Rattle.std.proofs.ByRecursion.{all-has, All-weaker, Decides-by_and}
+use Rattle.std.specs.List.{ContainsAt as Has, AllByRecursion, find}
+use Rattle.std.proofs.ByRecursion.{all-has, All-weaker, Decides-by_and, has_append_right}
+use Rattle.std.proofs.lemmas.List.{append-nil}
 use Rattle.std.proofs.lemmas.Bool.Decides.{Decides-below_or, Decides-and}
-use Rattle.std.proofs.lemmas.Bool.{leb-true, le-leb, eqb-true, eqb-false, ne_eqb, not-true, not-false, not_from_false, cases_lt, cases_eq}
-use Rattle.sets.specs.Sets.{bit, In, Within, only, union, shared, less, meeting, count}
+use Rattle.std.proofs.lemmas.Bool.{leb-true, le-leb, eqb-true, eqb-false, ne_eqb, not-true, not-false, not_from_false, cases_Bool, cases_lt, cases_eq}
+use Rattle.sets.specs.Sets.{labels, bit, In, Within, only, union, shared, less, meeting, count, members_of}
 use Rattle.sets.proofs.Bits.{bit-zero, bit_le, bit-shared, bit-union, bit-less, bit-only, bit-only_other, same_bits, union_assoc}
-use Rattle.sets.proofs.Members.{in_shared, shared_member, shared_positive, within_in, union_within_left, union_within_right, shared_within_left}
+use Rattle.sets.proofs.Members.{has_in, in_has, in_below, in_shared, shared_member, shared_positive, within_in, union_within_left, union_within_right, shared_within_left}
+use Rattle.sets.proofs.Each.{each_all, each-has}
 use Rattle.sets.proofs.Counts.{count-zero, count-only, count-union, count_within, count-less-only}
 use Rattle.pathsets.specs.Hitting.{Hits, hits, all_of, tried, hittable, Hittable, HittableWith}
+use Rattle.pathsets.proofs.Families.{has_here, has_later}
 
 -- ---- the test
 
@@ -27,10 +30,10 @@ meets_tells s h = (
   λ l. not_from_false _ (ne_eqb (shared s h) 0 (λ e. omega arith)),
 )
 
-pub meets_all : (s h : ℕ) → meeting s h ≡ true → 0 < shared s h
+meets_all : (s h : ℕ) → meeting s h ≡ true → 0 < shared s h
 meets_all s h = (meets_tells s h).0
 
-pub meets_none : (s h : ℕ) → meeting s h ≡ false → shared s h ≡ 0
+meets_none : (s h : ℕ) → meeting s h ≡ false → shared s h ≡ 0
 meets_none s h e = eqb-true (shared s h) 0 (not-false _ e)
 
 each_tells : (ss : List ℕ) (k h : ℕ) → Decides (leb (count h) k && hits h ss) ((count h ≤ k) × Hits h ss)
@@ -105,12 +108,36 @@ hit_on ss s c k m e (h, l, a) =
     (λ ne. omega (arith, bit-union (union c (only i)) g j, bit-union c (only i) j, bit-union c h j, bit-less h (only i) j, bit-only_other i j ne)) (cases_eq i j)) in
     (i, r.1, (g, omega (arith, count-less-only h i into), subst (λ (x : ℕ). Hits x ss) (sym same) a))
 
--- the turn at a craft t of the set is done: what is passed is what is left without it
-pub tried_more : (P : ℕ → Type 0) (set left t : ℕ) → In t left → P t
-    → ((i : ℕ) → In i set → bit left i ≡ 0 → P i) → (i : ℕ) → In i set → bit (less left (only t)) i ≡ 0 → P i
-tried_more P set left t m p inv i q z = ⊎_elim
-    (λ (e : t ≡ i). subst P e p)
-    (λ ne. inv i q (omega (arith, bit-less left (only t) i, bit-only_other t i ne))) (cases_eq t i)
+-- ---- the craft of a set in turn
+
+-- the turns so far, this one and those to come are the members: this one is one of them
+pub turn_member : (s : ℕ) (front rest : List ℕ) (i : ℕ) → front ++ i ∷ rest ≡ members_of s → (i < labels) × In i s
+turn_member s front rest i e =
+    all-has (λ (j : ℕ). (j < labels) × In j s) (members_of s) i
+    (each_all (λ (j : ℕ). j) s (λ (j : ℕ). (j < labels) × In j s) labels (λ k l h. (l, has_in s k h)))
+    (subst (λ (js : List ℕ). Has js i) e (has_append_right front (i ∷ rest) i (has_here i rest)))
+
+-- what holds of all that had a turn holds of each member once none is to come
+pub turns_done : (P : ℕ → Type 0) (s : ℕ) (front rest : List ℕ) → s < 2 ^ labels → front ++ rest ≡ members_of s → rest ≡ [] → AllByRecursion P front
+    → (i : ℕ) → In i s → P i
+turns_done P s front rest small e none h i m =
+    let all : members_of s ≡ front = sym e ∙ ap (λ (js : List ℕ). front ++ js) none ∙ append-nil front in
+    all-has P front i h (subst (λ (js : List ℕ). Has js i) all (each-has (λ (j : ℕ). j) s labels i (in_below labels s i small m) (in_has s i m)))
+
+-- ---- the first unmet set
+
+module _ (c : ℕ) where
+  unmet_more : (s : ℕ) (ss : List ℕ) → 0 < shared s c → (r : Option ℕ) → MatchOption r (Hits c ss) (λ t. Has ss t × (shared t c ≡ 0))
+      → MatchOption r (Hits c (s ∷ ss)) (λ t. Has (s ∷ ss) t × (shared t c ≡ 0))
+  unmet_more s ss m None h = (m, h)
+  unmet_more s ss m (Some t) h = (has_later s t ss h.0, h.1)
+
+  pub unmet : (ss : List ℕ) → MatchOption (find (λ s. not (meeting s c)) ss) (Hits c ss) (λ s. Has ss s × (shared s c ≡ 0))
+  unmet [] = tt
+  unmet (s ∷ ss) = ⊎_elim
+      (λ (e : meeting s c ≡ true). rw e (unmet_more s ss (meets_all s c e) (find (λ t. not (meeting t c)) ss) (unmet ss)))
+      (λ (e : meeting s c ≡ false). rw e (has_here s ss, meets_none s c e))
+      (cases_Bool (meeting s c))
 
 -- ---- two ends
 

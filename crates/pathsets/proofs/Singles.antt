@@ -1,23 +1,18 @@
 -- Sets of one craft in a family, and whom a craft tells. Assumes nothing.
 --   in_singles, singles_in   a craft makes up a set by itself exactly if the set of it alone is held
---   singles_more_lone, singles_more_many, singles_more_out   one row more, with such a set or without
+--   singles_folded   the sets of one craft, joined one after another
 --   told_is     the neighbours that the code tells are those of step 5
-use Rattle.std.proofs.Common.{◌≡◌, ℕ, ◌+◌, ◌^◌, ◌<◌, Bool, true, false, cond, eqb, List, [], ◌∷◌, ◌++◌, map, length, get_or, take, sym, ap, ◌∙◌, subst, ⊎_elim, arith}
+use Rattle.std.proofs.Common.{◌≡◌, ℕ, ◌^◌, ◌<◌, true, false, cond, eqb, List, [], ◌∷◌, filter, sym, ap, ◌∙◌, subst, ⊎_elim, arith}
+use Rattle.std.specs.List.{fold}
 use lib.Bits.{or_zero_r, or_zero_l}
-use Rattle.std.proofs.lemmas.List.{append-nil}
-use Rattle.std.proofs.lemmas.Bool.{cases_Bool, cases_eq, cases_lt, both_ways, or_cases, or_left, or_right, eqb-true, eq-eqb, ne_eqb, true≢false, cond-true, cond-false}
+use Rattle.std.proofs.lemmas.Bool.{cases_Bool, cases_eq, cases_lt, both_ways, or_cases, or_left, or_right, eqb-true, eq-eqb, true≢false, cond-true, cond-false}
 use Rattle.sets.specs.Sets.{labels, bit, In, only, one_of, union, less, count, passing}
 use Rattle.sets.proofs.Bits.{bit-zero, bit_le, bit-union, bit-less, bit-only, bit-only_other, same_bits, union_assoc}
 use Rattle.sets.proofs.Members.{in_below, not_in, union_in, less_in, in_less, one_of-below, one_of_past, same_members}
 use Rattle.sets.proofs.Counts.{count-only, count-less-only}
-use Rattle.frames.specs.declared.notes.Note.{Note}
-use Rattle.shelves.specs.declared.kinds.Row.{Row}
-use Rattle.shelves.specs.Rows.{keyed}
 use Rattle.pathsets.specs.Families.{holds, singles}
-use Rattle.pathsets.specs.Keys.{sets_of}
 use Rattle.pathsets.specs.Steps.{tells}
 use Rattle.pathsets.proofs.HittingLaws.{no_members}
-use Rattle.pathsets.proofs.RowSets.{sets_more}
 use Rattle.pathsets.proofs.StepLaws.{tells_in, in_tells}
 
 -- the only member of a set makes it up
@@ -54,35 +49,12 @@ in_singles (s ∷ ss) i h = ⊎_elim
     omega (arith, m, bit-union (lone s) (singles ss) i, bit_le (singles ss) i))
     (λ e. omega (arith, in_singles ss i e, bit-union (lone s) (singles ss) i, bit_le (lone s) i)) (or_cases (eqb (only i) s) _ h)
 
--- ---- row by row
-
-singles_push : (ss : List ℕ) (s : ℕ) → singles (ss ++ s ∷ []) ≡ union (singles ss) (lone s)
-singles_push [] s = or_zero_r (lone s) ∙ sym (or_zero_l (lone s))
-singles_push (t ∷ ss) s = ap (λ (x : ℕ). union (lone t) x) (singles_push ss s) ∙ sym (union_assoc (lone t) (singles ss) (lone s))
-
-module _ (a : ℕ) (x : Note) (rs : List Row) (i : ℕ) (d : Row) (l : i < length rs) where
-  singles_more_in : keyed a x (get_or rs i d) ≡ true
-      → singles (sets_of a x (take (i + 1) rs)) ≡ union (singles (sets_of a x (take i rs))) (lone (get_or rs i d).held)
-  singles_more_in e =
-      ap singles (sets_more a x rs i d l)
-      ∙ ap (λ (b : Bool). singles (sets_of a x (take i rs) ++ map (λ r. r.held) (cond b (get_or rs i d ∷ []) []))) e
-      ∙ singles_push (sets_of a x (take i rs)) (get_or rs i d).held
-
-  pub singles_more_lone : keyed a x (get_or rs i d) ≡ true → count (get_or rs i d).held ≡ 1
-      → singles (sets_of a x (take (i + 1) rs)) ≡ union (singles (sets_of a x (take i rs))) (get_or rs i d).held
-  singles_more_lone e one = singles_more_in e ∙ ap (λ (s : ℕ). union (singles (sets_of a x (take i rs))) s) (cond-true _ _ 0 (eq-eqb _ 1 one))
-
-  pub singles_more_many : keyed a x (get_or rs i d) ≡ true → (count (get_or rs i d).held ≡ 1 → ⊥)
-      → singles (sets_of a x (take (i + 1) rs)) ≡ singles (sets_of a x (take i rs))
-  singles_more_many e many =
-      singles_more_in e ∙ ap (λ (s : ℕ). union (singles (sets_of a x (take i rs))) s) (cond-false (eqb (count (get_or rs i d).held) 1) (get_or rs i d).held 0 (ne_eqb _ 1 many))
-      ∙ or_zero_r (singles (sets_of a x (take i rs)))
-
-  pub singles_more_out : keyed a x (get_or rs i d) ≡ false → singles (sets_of a x (take (i + 1) rs)) ≡ singles (sets_of a x (take i rs))
-  singles_more_out e =
-      ap singles (sets_more a x rs i d l)
-      ∙ ap (λ (b : Bool). singles (sets_of a x (take i rs) ++ map (λ r. r.held) (cond b (get_or rs i d ∷ []) []))) e
-      ∙ ap singles (append-nil (sets_of a x (take i rs)))
+pub singles_folded : (a : ℕ) (ss : List ℕ) → fold (λ (m s : ℕ). union m s) a (filter (λ (s : ℕ). eqb (count s) 1) ss) ≡ union a (singles ss)
+singles_folded a [] = sym (or_zero_r a)
+singles_folded a (s ∷ ss) = ⊎_elim
+    (λ (e : eqb (count s) 1 ≡ true). rw e (singles_folded (union a s) ss ∙ union_assoc a s (singles ss)))
+    (λ (e : eqb (count s) 1 ≡ false). rw e (singles_folded a ss ∙ ap (λ (t : ℕ). union a t) (sym (or_zero_l (singles ss)))))
+    (cases_Bool (eqb (count s) 1))
 
 -- ---- whom a craft tells
 

@@ -1,7 +1,7 @@
 -- Worked examples: what is heard by what is held. Assumes nothing.
 --   worked_families_lem   the examples
 --   of_one, of_two, of_three   the same of rows, as the code has them
-use Rattle.std.proofs.Common.{◌≡◌, ℕ, true, false, List, [], ◌∷◌, refl, ap, ◌∙◌, ⊎_elim}
+use Rattle.std.proofs.Common.{◌≡◌, ℕ, true, false, List, [], ◌∷◌, refl, ⊎_elim}
 use lib.Count.{ones}
 use Rattle.frames.specs.declared.notes.Note.{Note}
 use Rattle.frames.specs.declared.notes.Step.TheVariants.{Send}
@@ -49,17 +49,14 @@ worked_families_lem = record {
 abbrev some_note : Note
 some_note = note Send 0 0 0
 
-pub of_one : (r : Row) (s : ℕ) → r ≡ row_of 0 some_note s → hittable 1 (sets_of 0 some_note (r ∷ [])) ≡ hittable 1 (s ∷ [])
-of_one r s p = ap (λ (z : Row). hittable 1 (sets_of 0 some_note (z ∷ []))) p
+module _ (y : Note) (default : y ≡ some_note) where
+  pub of_one : (r : Row) (s : ℕ) → r ≡ row_of 0 some_note s → hittable 1 (sets_of 0 y (r ∷ [])) ≡ hittable 1 (s ∷ [])
+  of_one r s p = rw (default, p) refl
 
-pub of_two : (r r' : Row) (s s' : ℕ) → r ≡ row_of 0 some_note s → r' ≡ row_of 0 some_note s'
-    → hittable 1 (sets_of 0 some_note (r ∷ r' ∷ [])) ≡ hittable 1 (s ∷ s' ∷ [])
-of_two r r' s s' p q =
-    ap (λ (z : Row). hittable 1 (sets_of 0 some_note (z ∷ r' ∷ []))) p ∙ ap (λ (z : Row). hittable 1 (sets_of 0 some_note (row_of 0 some_note s ∷ z ∷ []))) q
+  pub of_two : (r r' : Row) (s s' : ℕ) → r ≡ row_of 0 some_note s → r' ≡ row_of 0 some_note s'
+      → hittable 1 (sets_of 0 y (r ∷ r' ∷ [])) ≡ hittable 1 (s ∷ s' ∷ [])
+  of_two r r' s s' p q = rw (default, p, q) refl
 
-pub of_three : (r r' r'' : Row) (s s' s'' : ℕ) → r ≡ row_of 0 some_note s → r' ≡ row_of 0 some_note s' → r'' ≡ row_of 0 some_note s''
-    → hittable 1 (sets_of 0 some_note (r ∷ r' ∷ r'' ∷ [])) ≡ hittable 1 (s ∷ s' ∷ s'' ∷ [])
-of_three r r' r'' s s' s'' p q t =
-    ap (λ (z : Row). hittable 1 (sets_of 0 some_note (z ∷ r' ∷ r'' ∷ []))) p
-    ∙ ap (λ (z : Row). hittable 1 (sets_of 0 some_note (row_of 0 some_note s ∷ z ∷ r'' ∷ []))) q
-    ∙ ap (λ (z : Row). hittable 1 (sets_of 0 some_note (row_of 0 some_note s ∷ row_of 0 some_note s' ∷ z ∷ []))) t
+  pub of_three : (r r' r'' : Row) (s s' s'' : ℕ) → r ≡ row_of 0 some_note s → r' ≡ row_of 0 some_note s' → r'' ≡ row_of 0 some_note s''
+      → hittable 1 (sets_of 0 y (r ∷ r' ∷ r'' ∷ [])) ≡ hittable 1 (s ∷ s' ∷ s'' ∷ [])
+  of_three r r' r'' s s' s'' p q t = rw (default, p, q, t) refl

@@ -6,26 +6,17 @@ ghost use Rattle.shelves.specs.Rows.{row_of};
 ghost use Rattle.pathsets.specs.Examples.{WorkedFamilies};
 
 use crate::search::is_hittable;
-use frames::{Note, Step};
+use frames::Note;
 use sets::CraftSet;
 use shelves::Row;
 
-// A note.
-const NOTE: Note = Note {
-    content: 0,
-    step: Step::Send,
-    origin: 0,
-    number: 0,
-};
-
-// A row that holds a set for it.
+// A row that holds a set for the default note of craft 0.
 fn holding(held: CraftSet) -> Row
     ensures { result ≡ row_of 0 (note Send 0 0 0) held }
 {
     Row {
-        note: NOTE,
-        author: 0,
         held,
+        ..Row::default()
     }
 }
 
@@ -35,14 +26,15 @@ pub fn worked_families() -> (bool, bool, bool, bool)
     ensures answer { result ≡ (false, true, false, true) }
     ensures families { WorkedFamilies }
 {
+    let note = Note::default();
     let one = [holding(0b00100)];
     let two = [holding(0b00100), holding(0b01000)];
     let pairs = [holding(0b01100), holding(0b10100)];
     let triangle = [holding(0b01100), holding(0b10100), holding(0b11000)];
     (
-        !is_hittable(&one, 0, &NOTE, 1),
-        !is_hittable(&two, 0, &NOTE, 1),
-        !is_hittable(&pairs, 0, &NOTE, 1),
-        !is_hittable(&triangle, 0, &NOTE, 1),
+        !is_hittable(&one, 0, &note, 1),
+        !is_hittable(&two, 0, &note, 1),
+        !is_hittable(&pairs, 0, &note, 1),
+        !is_hittable(&triangle, 0, &note, 1),
     )
 }

@@ -2,31 +2,21 @@
 ghost use Rattle.std.specs.Prelude.{◌≡◌, ℕ, Decides, MatchOption};
 ghost use Rattle.std.specs.List.{ContainsAt as Has};
 ghost use Rattle.sets.specs.Sets.{shared};
-ghost use Rattle.shelves.specs.Rows.{keyed};
 ghost use Rattle.pathsets.specs.Hitting.{Hits, hittable, Hittable, HittableWith};
 ghost use Rattle.pathsets.specs.Keys.{sets_of};
 
 use frames::Note;
-use sets::{CraftSet, lowest, meets, rest, with};
+use sets::{CraftSet, meets, members_of, with};
 use shelves::Row;
-
-// Whether the row is for the author and the note.
-pub(crate) fn is_for(row: &Row, author: u8, note: &Note) -> bool
-    ensures { result ≡ keyed author note.now row.now }
-{
-    row.author == author && row.note == *note
-}
 
 // The first set held for the author and the note that has no craft of the chosen ones.
 fn first_unmet(rows: &[Row], author: u8, note: &Note, chosen: CraftSet) -> Option<CraftSet>
     ensures { MatchOption result (Hits chosen (sets_of author note.now rows.now)) (λ s. Has (sets_of author note.now rows.now) s × (shared s chosen ≡ 0)) }
 {
-    for row in rows {
-        if is_for(row, author, note) && !meets(row.held, chosen) {
-            return Some(row.held);
-        }
-    }
-    None
+    rows.iter()
+        .filter(|row| row.is_for(author, note))
+        .map(|row| row.held)
+        .find(|held| !meets(*held, chosen))
 }
 
 // Whether at most `allowed` craft more, together with the chosen ones, hit every set held for the author and the note:
@@ -40,12 +30,10 @@ fn is_hittable_with(rows: &[Row], author: u8, note: &Note, chosen: CraftSet, all
     if allowed == 0 {
         return false;
     }
-    let mut left = unmet;
-    while let Some(craft) = lowest(left) {
+    for craft in members_of(unmet) {
         if is_hittable_with(rows, author, note, with(chosen, craft), allowed - 1) {
             return true;
         }
-        left = rest(left);
     }
     false
 }

@@ -5,7 +5,6 @@ ghost use Rattle.pathsets.specs.Families.{singles};
 ghost use Rattle.pathsets.specs.Keys.{sets_of};
 ghost use Rattle.pathsets.specs.Steps.{tells};
 
-use crate::search::is_for;
 use frames::Note;
 use sets::{CraftSet, count, minus, without};
 use shelves::Row;
@@ -14,13 +13,11 @@ use shelves::Row;
 fn alone(rows: &[Row], author: u8, note: &Note) -> CraftSet
     ensures { result ≡ singles (sets_of author note.now rows.now) }
 {
-    let mut craft = 0;
-    for row in rows {
-        if is_for(row, author, note) && count(row.held) == 1 {
-            craft |= row.held;
-        }
-    }
-    craft
+    rows.iter()
+        .filter(|row| row.is_for(author, note))
+        .map(|row| row.held)
+        .filter(|held| count(*held) == 1)
+        .fold(0, |craft, held| craft | held)
 }
 
 // The neighbours that are told a set: not the author, not those in the set, and not those that are alone in a set that the rows hold.

@@ -22,6 +22,7 @@ use Rattle.shelves.specs.declared.kinds.Shelf.{Shelf}
 use Rattle.shelves.specs.Shelves.{rows_at, fewest}
 use Rattle.pathsets.specs.declared.listener.Listener.{Listener}
 use Rattle.pathsets.specs.declared.outcome.Outcome.{Outcome}
+use Rattle.pathsets.specs.Outcomes.{is_heard, set_of, told_by}
 use Rattle.pathsets.specs.Steps.{Stepped, step}
 use Rattle.pathsets.specs.Shelving.{stepped, TakesAt}
 use Rattle.pathsets.proofs.ShelfSteps.{stepped_free, told-linked}
@@ -62,7 +63,7 @@ module _ (c : PassedChart) (p : Parts) (k : ℕ) (e : Entry) (w : links.Meaning)
       abbrev after : Parts
       after = record { links = w'; shelves = at; astray = p.astray }
 
-      carries_with : w'.waiting ≡ remove p.links.waiting k ++ sent e.to left.out.to (frame_of e.frame.author e.frame.note left.out.set)
+      carries_with : w'.waiting ≡ remove p.links.waiting k ++ sent e.to (told_by left.out) (frame_of e.frame.author e.frame.note (set_of left.out))
           → Carries (setting c) (state p) k e (state after)
       carries_with waits = record {
         there = there;
@@ -75,35 +76,35 @@ module _ (c : PassedChart) (p : Parts) (k : ℕ) (e : Entry) (w : links.Meaning)
 
       -- what waits once the frame went on
       waits : (u : Unit {0}) → PassesOn w e o (Ok u) w'
-          → w'.waiting ≡ remove p.links.waiting k ++ sent e.to left.out.to (frame_of e.frame.author e.frame.note left.out.set)
+          → w'.waiting ≡ remove p.links.waiting k ++ sent e.to (told_by left.out) (frame_of e.frame.author e.frame.note (set_of left.out))
       waits u on = ⊎_elim
-          (λ (z : o.to ≡ 0).
+          (λ (z : told_by o ≡ 0).
           ap (λ (v : links.Meaning). v.waiting) (on.0 z) ∙ take.waiting ∙ sym (append-nil (remove p.links.waiting k))
           ∙ ap (λ (l : List Entry). remove p.links.waiting k ++ l) (sym (each_empty (entry_to e.to (passed_frame e o)) labels))
           ∙ ap (λ (s : ℕ). remove p.links.waiting k ++ sent e.to s (passed_frame e o)) (sym z) ∙ as_left)
-          (λ ne. (on.1 ne).waiting ∙ ap (λ (l : List Entry). l ++ sent e.to o.to (passed_frame e o)) take.waiting ∙ as_left)
-          (cases_eq o.to 0)
+          (λ ne. (on.1 ne).waiting ∙ ap (λ (l : List Entry). l ++ sent e.to (told_by o) (passed_frame e o)) take.waiting ∙ as_left)
+          (cases_eq (told_by o) 0)
         where
-          as_left : remove p.links.waiting k ++ sent e.to o.to (passed_frame e o)
-              ≡ remove p.links.waiting k ++ sent e.to left.out.to (frame_of e.frame.author e.frame.note left.out.set)
-          as_left = ap (λ (r : Outcome). remove p.links.waiting k ++ sent e.to r.to (passed_frame e r)) out_is
+          as_left : remove p.links.waiting k ++ sent e.to (told_by o) (passed_frame e o)
+              ≡ remove p.links.waiting k ++ sent e.to (told_by left.out) (frame_of e.frame.author e.frame.note (set_of left.out))
+          as_left = ap (λ (r : Outcome). remove p.links.waiting k ++ sent e.to (told_by r) (passed_frame e r)) out_is
 
       links_kept : (u : Unit {0}) → PassesOn w e o (Ok u) w' → Kept p.links w'
       links_kept u on = ⊎_elim
-          (λ (z : o.to ≡ 0). subst (Kept p.links) (sym (on.0 z)) take.kept)
+          (λ (z : told_by o ≡ 0). subst (Kept p.links) (sym (on.0 z)) take.kept)
           (λ ne. let q = (on.1 ne).kept in record {
             rows = q.rows ∙ take.kept.rows;
             capacity = q.capacity ∙ take.kept.capacity;
             lent = q.lent ∙ take.kept.lent;
             needed = q.needed ∙ take.kept.needed;
           })
-          (cases_eq o.to 0)
+          (cases_eq (told_by o) 0)
 
       links_spare : (u : Unit {0}) → PassesOn w e o (Ok u) w' → p.links.spare ≤ w'.spare + 1
       links_spare u on = ⊎_elim
-          (λ (z : o.to ≡ 0). omega (arith, take.spare, ap (λ (v : links.Meaning). v.spare) (on.0 z)))
+          (λ (z : told_by o ≡ 0). omega (arith, take.spare, ap (λ (v : links.Meaning). v.spare) (on.0 z)))
           (λ ne. omega (arith, take.spare, (on.1 ne).spare))
-          (cases_eq o.to 0)
+          (cases_eq (told_by o) 0)
 
       pub carried_on : (u : Unit {0}) → PassesOn w e o (Ok u) w' → (t : Option Heard) → t ≡ telling c p e → CarriedOn c p k e t after
       carried_on u on t answer = record {
@@ -120,28 +121,28 @@ module _ (c : PassedChart) (p : Parts) (k : ℕ) (e : Entry) (w : links.Meaning)
         own = rows_are;
         other = takes.others;
         astray = refl;
-        refused = ap (λ (v : links.Meaning). refusal (put_causes v.rows v.spare e.to left.out.to)) same
-            ∙ ap (λ (r : Outcome). refusal (put_causes w.rows w.spare e.to r.to)) (sym out_is) ∙ why;
+        refused = ap (λ (v : links.Meaning). refusal (put_causes v.rows v.spare e.to (told_by left.out))) same
+            ∙ ap (λ (r : Outcome). refusal (put_causes w.rows w.spare e.to (told_by r))) (sym out_is) ∙ why;
       }
 
     -- ---- the put is taken
 
-    pub put_taken : p.links.rows ≡ chart_rows c.chart → 0 < spare_of p → (o.to ≡ 0 → ⊥) → refusal (put_causes w.rows w.spare e.to o.to) ≡ None
+    pub put_taken : p.links.rows ≡ chart_rows c.chart → 0 < spare_of p → (told_by o ≡ 0 → ⊥) → refusal (put_causes w.rows w.spare e.to (told_by o)) ≡ None
     put_taken same room some =
-        let linked : (i : ℕ) → In i o.to → (e.to < c.chart.n) × In i (get_or c.chart.rows e.to 0) =
-        λ i h. told-linked (listener (setting c) e.to) e.from e.frame (rows_at p.shelves e.to) i (subst (λ (r : Outcome). In i r.to) out_is h) in
-        let m = some_member o.to (omega arith) in
-        puts c.chart w (take.kept.rows ∙ same) e.to o.to (linked m.0 m.1).0 (omega arith)
-        (bit_lacks o.to e.to (not_in o.to e.to (λ h. c.chart.apart e.to (linked e.to h).1)))
-        (within_inside o.to (get_or c.chart.rows e.to 0) (within_by o.to (get_or c.chart.rows e.to 0) (λ i h. (linked i h).1)))
+        let linked : (i : ℕ) → In i (told_by o) → (e.to < c.chart.n) × In i (get_or c.chart.rows e.to 0) =
+        λ i h. told-linked (listener (setting c) e.to) e.from e.frame (rows_at p.shelves e.to) i (subst (λ (r : Outcome). In i (told_by r)) out_is h) in
+        let m = some_member (told_by o) (omega arith) in
+        puts c.chart w (take.kept.rows ∙ same) e.to (told_by o) (linked m.0 m.1).0 (omega arith)
+        (bit_lacks (told_by o) e.to (not_in (told_by o) e.to (λ h. c.chart.apart e.to (linked e.to h).1)))
+        (within_inside (told_by o) (get_or c.chart.rows e.to 0) (within_by (told_by o) (get_or c.chart.rows e.to 0) (λ i h. (linked i h).1)))
         (omega (arith, take.spare))
 
 pub told_is : (c : PassedChart) (p : Parts) (k : ℕ) (e : Entry) (w : links.Meaning) (t : Option Heard) → Taken p.links k e w
     → t ≡ telling c p e → t ≡ telling c p (get_or p.links.waiting k no_entry)
 told_is c p k e w t take h = h ∙ ap (telling c p) (sym take.entry ∙ get_or_default p.links.waiting k e no_entry (taken-below p.links k take.accepted))
 
-pub heard-told : (c : PassedChart) (p : Parts) (e : Entry) → (stepped_at (setting c) (state p) e).out.heard ≡ true → telling c p e ≡ Some (heard_by e)
+pub heard-told : (c : PassedChart) (p : Parts) (e : Entry) → is_heard (stepped_at (setting c) (state p) e).out ≡ true → telling c p e ≡ Some (heard_by e)
 heard-told c p e h = ap (λ (b : Bool). cond b (Some (heard_by e)) None) h
 
-pub quiet_told : (c : PassedChart) (p : Parts) (e : Entry) → (stepped_at (setting c) (state p) e).out.heard ≡ false → telling c p e ≡ None
+pub quiet_told : (c : PassedChart) (p : Parts) (e : Entry) → is_heard (stepped_at (setting c) (state p) e).out ≡ false → telling c p e ≡ None
 quiet_told c p e h = ap (λ (b : Bool). cond b (Some (heard_by e)) None) h

@@ -25,6 +25,7 @@ use Rattle.links.specs.Meanings.{chart_rows}
 use Rattle.links.specs.Meanings as links
 use Rattle.links.specs.Calls.{Kept, Taken, start_causes, put_causes}
 use Rattle.shelves.specs.Shelves.{rows_at, heard_on}
+use Rattle.pathsets.specs.Outcomes.{is_heard, told_by}
 use Rattle.relaying.specs.States.{Setting, State, stepped_at, Carries}
 use Rattle.relaying.specs.Laws.{Reached}
 use Rattle.relaying.specs.Toil.{toil}
@@ -63,7 +64,7 @@ abbrev pub heard_by : Entry → Heard
 heard_by e = record { note = e.frame.note; listener = e.to; author = e.frame.author }
 
 abbrev pub telling : PassedChart → Parts → Entry → Option Heard
-telling c p e = cond (stepped_at (setting c) (state p) e).out.heard (Some (heard_by e)) None
+telling c p e = cond (is_heard (stepped_at (setting c) (state p) e).out) (Some (heard_by e)) None
 
 abbrev pub telling_of : {L : Type 0} → (L → links.Meaning) → Relay L → ℕ → Option Heard
 telling_of m r k = telling r.passed (parts m r.base) (slice_index_or (m r.base.store.links).waiting k no_entry)
@@ -89,7 +90,7 @@ pub record Stopped (c : PassedChart) (p : Parts) (k : ℕ) (x : Fault) (p' : Par
   pub own : rows_at p'.shelves entry.to ≡ (stepped_at (setting c) (state p) entry).rows
   pub other : (i : ℕ) → (i ≢ entry.to) → rows_at p'.shelves i ≡ rows_at p.shelves i
   pub astray : p'.astray ≡ p.astray
-  pub refused : refusal (put_causes p'.links.rows p'.links.spare entry.to (stepped_at (setting c) (state p) entry).out.to) ≡ Some (told x)
+  pub refused : refusal (put_causes p'.links.rows p'.links.spare entry.to (told_by (stepped_at (setting c) (state p) entry).out)) ≡ Some (told x)
 
 abbrev pub CarriesRelay : {L : Type 0} → (L → links.Meaning) → Relay L → ℕ → Result (Option Heard) Fault → Relay L → Type 0
 CarriesRelay m r k (Ok t) r' = ((e : Entry) × CarriedOn r.passed (parts m r.base) k e t (parts m r'.base)) × (r'.passed ≡ r.passed)

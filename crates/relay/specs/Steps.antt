@@ -24,6 +24,7 @@ use Rattle.shelves.specs.Rows.{row_of, keyed, stays}
 use Rattle.shelves.specs.Shelves.{rows_at, heard_on}
 use Rattle.shelves.proofs.Hearing.{heard-held}
 use Rattle.pathsets.specs.Keys.{same_key, sets_of}
+use Rattle.pathsets.specs.Outcomes.{is_heard}
 use Rattle.pathsets.proofs.RowSets.{heard_sets, same_key_sym}
 use Rattle.relaying.specs.States.{heard, Says, Meddles, stepped_at}
 use Rattle.relaying.specs.Invariants.{Kept}
@@ -165,7 +166,7 @@ module _ (c : PassedChart) (p : Parts) (s : Fitting c p) where
     falls : (meaning_of c p').toil + 1 ≤ (meaning_of c p).toil
     falls = toil_falls (setting c) (state p) (state p') k e (charted c) s.reached co.carries
 
-    pub carry_quiet : (stepped_at (setting c) (state p) e).out.heard ≡ false → Quiet (meaning_of c p) (meaning_of c p')
+    pub carry_quiet : is_heard (stepped_at (setting c) (state p) e).out ≡ false → Quiet (meaning_of c p) (meaning_of c p')
     carry_quiet h = record {
       fixed = record { n = refl; f = refl; chart = refl };
       heard = as_silent c p p' (answers.nothing h);
@@ -174,7 +175,7 @@ module _ (c : PassedChart) (p : Parts) (s : Fitting c p) where
       spare = co.spare;
     }
 
-    pub carry_hears : (stepped_at (setting c) (state p) e).out.heard ≡ true
+    pub carry_hears : is_heard (stepped_at (setting c) (state p) e).out ≡ true
         → Hears (meaning_of c p) e.to e.frame.author e.frame.note (meaning_of c p')
     carry_hears h = record {
       fixed = record { n = refl; f = refl; chart = refl };

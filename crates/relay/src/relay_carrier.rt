@@ -21,15 +21,16 @@ use sets::CraftSet;
 fn pass_on<L: LinkService>(links: &mut L, entry: &Entry, out: &Outcome) -> Result<(), Fault>
     ensures { PassesOn (L.LinkService.meaning links.old) entry.now out.now result (L.LinkService.meaning links.new) }
 {
-    if out.to == 0 {
+    let to = out.to();
+    if to == 0 {
         return Ok(());
     }
     let frame = Frame {
         note: entry.frame.note,
         author: entry.frame.author,
-        set: out.set,
+        set: out.set(),
     };
-    links.put(entry.to, out.to, frame)
+    links.put(entry.to, to, frame)
 }
 
 impl<L: LinkService + Drop> Relay<L> {
@@ -94,7 +95,7 @@ impl<L: LinkService> Carrier for Relay<L> {
         };
         let out = take_in_at(&mut self.base.store.table, &at, entry.from, &entry.frame);
         pass_on(&mut self.base.store.links, &entry, &out)?;
-        if !out.heard {
+        if !out.heard() {
             return Ok(None);
         }
         Ok(Some(Heard {

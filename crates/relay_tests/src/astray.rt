@@ -34,9 +34,7 @@ fn makes_up<C: Carrier>(rt: &impl Abort, c: &mut C) -> Result<(), Fail> {
 
 // Nobody heard it, and craft 0 did not say it.
 fn unheard<C: Carrier>(rt: &impl Abort, c: &C) {
-    for listener in 0..c.craft() {
-        assert!(rt; !c.heard(listener, 0, &note(Step::Send)));
-    }
+    assert!(rt; (0..c.craft()).all(|listener| !c.heard(listener, 0, &note(Step::Send))));
 }
 
 // Then craft 0 says it: craft 2 hears it over the link, and 1 as soon as it came by two paths.
@@ -60,9 +58,7 @@ fn says<C: Carrier>(rt: &impl Abort, c: &mut C) -> Result<(), Fail> {
 }
 
 fn all_heard<C: Carrier>(rt: &impl Abort, c: &C) {
-    for listener in 0..c.craft() {
-        assert!(rt; c.heard(listener, 0, &note(Step::Send)));
-    }
+    assert!(rt; (0..c.craft()).all(|listener| c.heard(listener, 0, &note(Step::Send))));
 }
 
 fn attack<C: Carrier>(rt: &impl Abort, c: &mut C) -> Result<(), Fail> {
@@ -91,10 +87,7 @@ fn open_refused<L: LinkService + Drop>(
     links: L,
     needed: usize,
 ) -> Result<(), Fail> {
-    let refusal = match Relay::open(links, five()?) {
-        Ok(_) => None,
-        Err(fault) => Some(fault),
-    };
+    let refusal = Relay::open(links, five()?).err();
     assert_eq!(rt; refusal, Some(Layer::Links.refuses(Refusal::Short(needed))));
     Ok(())
 }

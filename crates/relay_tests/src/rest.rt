@@ -24,9 +24,7 @@ impl<L: LinkService> Shown for Relay<L> {
 // The same entries wait, in the same order.
 fn same_list<A: Carrier + Shown, B: Carrier + Shown>(rt: &impl Abort, a: &A, b: &B) {
     assert_eq!(rt; a.waiting(), b.waiting());
-    for k in 0..a.waiting() {
-        assert_eq!(rt; a.shown(k), b.shown(k));
-    }
+    assert!(rt; (0..a.waiting()).all(|k| a.shown(k) == b.shown(k)));
 }
 
 // Craft 0 sends, and every craft echoes and is ready.

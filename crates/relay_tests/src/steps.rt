@@ -12,26 +12,14 @@ const ONE_OF_FIVE: Listener = Listener {
     neighbours: 0b11100,
 };
 
-const DROPPED: Outcome = Outcome {
-    heard: false,
-    set: 0,
-    to: 0,
-};
+const DROPPED: Outcome = Outcome::Dropped;
 
 fn told(set: CraftSet, to: CraftSet) -> Outcome {
-    Outcome {
-        heard: false,
-        set,
-        to,
-    }
+    Outcome::Held { set, to }
 }
 
 fn heard(to: CraftSet) -> Outcome {
-    Outcome {
-        heard: true,
-        set: 0,
-        to,
-    }
+    Outcome::Heard { to }
 }
 
 // Straight through 2 it is held, and told to 3 and 4; straight through 3 it is heard, and 4 alone is told: 2 and 3 have heard it.
@@ -48,7 +36,7 @@ fn two_paths_are_heard(rt: HostRuntime) {
         heard(0b10000)
     );
     assert!(rt; shelf.covers(0, &note(Step::Send), 0));
-    assert_eq!(rt; shelf.len, 1);
+    assert_eq!(rt; shelf.len(), 1);
     assert_eq!(rt; take_in(&mut shelf, &ONE_OF_FIVE, 4, &send(0)), DROPPED);
 }
 
@@ -64,12 +52,12 @@ fn crossing_paths_are_heard_by_the_cut(rt: HostRuntime) {
         take_in(&mut shelf, &ONE_OF_FIVE, 2, &send(0b10000)),
         told(0b10100, 0b01000)
     );
-    assert_eq!(rt; shelf.len, 2);
+    assert_eq!(rt; shelf.len(), 2);
     assert_eq!(rt;
         take_in(&mut shelf, &ONE_OF_FIVE, 3, &send(0b10000)),
         heard(0b11100)
     );
-    assert_eq!(rt; shelf.len, 1);
+    assert_eq!(rt; shelf.len(), 1);
 }
 
 // A path takes the place of those that contain it, and those that contain a held one are dropped.
@@ -84,7 +72,7 @@ fn shorter_paths_take_the_place_of_longer(rt: HostRuntime) {
         take_in(&mut shelf, &ONE_OF_FIVE, 3, &send(0b10000)),
         told(0b11000, 0b00100)
     );
-    assert_eq!(rt; shelf.len, 1);
+    assert_eq!(rt; shelf.len(), 1);
     assert_eq!(rt;
         take_in(&mut shelf, &ONE_OF_FIVE, 4, &send(0b01000)),
         DROPPED
@@ -97,7 +85,7 @@ fn shorter_paths_take_the_place_of_longer(rt: HostRuntime) {
         take_in(&mut shelf, &ONE_OF_FIVE, 4, &send(0)),
         told(0b10000, 0b01100)
     );
-    assert_eq!(rt; shelf.len, 1);
+    assert_eq!(rt; shelf.len(), 1);
 }
 
 // What the first step drops, each for one reason.
@@ -113,25 +101,18 @@ fn unfit_frames_are_dropped(rt: HostRuntime) {
         author: 5,
         ..send(0)
     };
-    assert_eq!(rt; take_in(&mut shelf, &ONE_OF_FIVE, 2, &own), DROPPED);
-    assert_eq!(rt; take_in(&mut shelf, &ONE_OF_FIVE, 2, &nobody), DROPPED);
-    assert_eq!(rt;
-        take_in(&mut shelf, &ONE_OF_FIVE, 2, &send(0b00010)),
-        DROPPED
-    );
-    assert_eq!(rt;
-        take_in(&mut shelf, &ONE_OF_FIVE, 2, &send(0b00100)),
-        DROPPED
-    );
-    assert_eq!(rt;
-        take_in(&mut shelf, &ONE_OF_FIVE, 2, &send(0b00001)),
-        DROPPED
-    );
-    assert_eq!(rt;
-        take_in(&mut shelf, &ONE_OF_FIVE, 2, &send(0b100000)),
-        DROPPED
-    );
-    assert_eq!(rt; shelf.len, 0);
+    let unfit = [
+        own,
+        nobody,
+        send(0b00010),
+        send(0b00100),
+        send(0b00001),
+        send(0b100000),
+    ];
+    for frame in &unfit {
+        assert_eq!(rt; take_in(&mut shelf, &ONE_OF_FIVE, 2, frame), DROPPED);
+    }
+    assert_eq!(rt; shelf.len(), 0);
 }
 
 // A Send by another than its origin, a number above 3, an author's own frame with a set, and that frame without one.
@@ -154,10 +135,10 @@ fn unsound_notes_and_authors_with_a_set_are_dropped(rt: HostRuntime) {
         author: 2,
         set: 0b01000,
     };
-    assert_eq!(rt; take_in(&mut shelf, &ONE_OF_FIVE, 2, &other), DROPPED);
-    assert_eq!(rt; take_in(&mut shelf, &ONE_OF_FIVE, 2, &late), DROPPED);
-    assert_eq!(rt; take_in(&mut shelf, &ONE_OF_FIVE, 2, &echo), DROPPED);
-    assert_eq!(rt; shelf.len, 0);
+    for frame in &[other, late, echo] {
+        assert_eq!(rt; take_in(&mut shelf, &ONE_OF_FIVE, 2, frame), DROPPED);
+    }
+    assert_eq!(rt; shelf.len(), 0);
     let straight = Frame { set: 0, ..echo };
     assert_eq!(rt;
         take_in(&mut shelf, &ONE_OF_FIVE, 2, &straight),

@@ -4,6 +4,7 @@ use Rattle.std.proofs.Common.{◌≡◌, ℕ, Bool, true, false, ◌&&◌, ◌||
 use Rattle.std.proofs.lemmas.Bool.{both_ways, cases_Bool, not-false, or_right}
 use Rattle.frames.specs.declared.notes.Note.{Note}
 use Rattle.links.specs.declared.entries.Entry.{Entry}
+use Rattle.pathsets.specs.Outcomes.{is_heard}
 use Rattle.pathsets.proofs.Families.{covering_all, holds_has}
 use Rattle.pathsets.proofs.HittingLaws.{heard_empty, hittable_decides}
 use Rattle.pathsets.specs.Families.{holds}
@@ -38,7 +39,7 @@ no_empty f ss q = ⊎_elim
 module _ (g : Setting) (s : State) (k : ℕ) (e : Entry) (s' : State) (ct : Charted g.n g.chart) (kp : Kept g s) (c : Carries g s k e s') where
   answers_dropped : Dropped g s k e s' → Answers g s e s'
   answers_dropped dr =
-      let never : (stepped_at g s e).out.heard ≡ true → ⊥ = both_ways (stepped_at g s e).out.heard dr.quiet in
+      let never : is_heard (stepped_at g s e).out ≡ true → ⊥ = both_ways (is_heard (stepped_at g s e).out) dr.quiet in
       record {
         new = λ h. absurd (never h);
         sound = λ h. absurd (never h);
@@ -55,11 +56,11 @@ module _ (g : Setting) (s : State) (k : ℕ) (e : Entry) (s' : State) (ct : Char
     labels = λ _. (tk.fits.craft, tk.fits.author);
     different = λ _ h. tk.fits.other (sym h);
     adds = λ h. ⊎_elim
-        (λ (w : ((stepped_at g s e).out.heard ≡ true) × (tk.F ≡ 0 ∷ [])).
+        (λ (w : (is_heard (stepped_at g s e).out ≡ true) × (tk.F ≡ 0 ∷ [])).
         adds_empty s s' e.to e.frame.author e.frame.note (subst (Changed (held s) (held s') e.to e.frame.author e.frame.note) w.1 tk.changed))
-        (λ w. absurd (both_ways (stepped_at g s e).out.heard w.0 h)) tk.answer;
+        (λ w. absurd (both_ways (is_heard (stepped_at g s e).out) w.0 h)) tk.answer;
     nothing = λ h. ⊎_elim
-        (λ (w : ((stepped_at g s e).out.heard ≡ true) × (tk.F ≡ 0 ∷ [])). absurd (both_ways (stepped_at g s e).out.heard h w.0))
+        (λ (w : (is_heard (stepped_at g s e).out ≡ true) × (tk.F ≡ 0 ∷ [])). absurd (both_ways (is_heard (stepped_at g s e).out) h w.0))
         (λ w. at_key (held s) (held s') e.to e.frame.author e.frame.note tk.F tk.changed (λ b d y L. holds 0 L ≡ heard s b d y)
         (no_empty g.f tk.F w.2 ∙ sym unheard) (λ _ _ _. refl)) tk.answer;
   }

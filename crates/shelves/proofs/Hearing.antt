@@ -4,7 +4,7 @@
 --   has_room        with a free row on every shelf there is room
 --   held_for_sure   with a free row on every shelf a set is held
 --   heard-held      of all craft: exactly this listener, author and note are heard in addition
-use Rattle.std.proofs.Common.{◌≡◌, ℕ, ◌<◌, Bool, true, false, ◌&&◌, ◌||◌, eqb, List, [], ◌∷◌, length, MatchBool, filter, sym, refl, ap, ◌∙◌, subst, ⊎_elim, arith, length-take}
+use Rattle.std.proofs.Common.{◌≡◌, ℕ, ◌<◌, Bool, true, false, ◌&&◌, ◌||◌, eqb, List, [], ◌∷◌, length, MatchBool, filter, sym, refl, ap, ◌∙◌, subst, ⊎_elim, arith}
 use Rattle.std.proofs.lemmas.Bool.{cases_Bool, cases_eq, or_right, and_parts, and_left, not-false, eqb-true, eq-eqb, ne_eqb, lt-ltb, cond-true, cond-false}
 use Rattle.sets.specs.Sets.{labels, inside}
 use Rattle.sets.proofs.Members.{inside_self}
@@ -15,7 +15,7 @@ use Rattle.shelves.specs.declared.kinds.Row.{Row}
 use Rattle.shelves.specs.declared.kinds.Shelf.{Shelf}
 use Rattle.shelves.specs.Lengths.{shelf_length}
 use Rattle.shelves.specs.Rows.{row_of, keyed, covers, covered, stays, holding, heard_in}
-use Rattle.shelves.specs.Shelves.{rows_at, shelf_at, heard_on, fewest, HeldAt, HoldsAt}
+use Rattle.shelves.specs.Shelves.{rows_at, heard_on, fewest, HeldAt, HoldsAt}
 use Rattle.shelves.proofs.Kept.{kept_le}
 use Rattle.shelves.proofs.Coverings.{covered_push}
 use Rattle.shelves.proofs.FreeRows.{fewest_at}
@@ -70,7 +70,7 @@ heard-holding rs a x b y =
 module _ (ss : List Shelf) (p a : ℕ) (x : Note) (u : ℕ) (small : p < labels) (free : 0 < fewest ss) where
   pub has_room : length (filter (stays a x u) (rows_at ss p)) < shelf_length
   has_room =
-      omega (arith, kept_le (stays a x u) (rows_at ss p), length-take (shelf_at ss p).len (shelf_at ss p).rows, fewest_at ss labels p small)
+      omega (arith, kept_le (stays a x u) (rows_at ss p), fewest_at ss labels p small)
 
   pub held_for_sure : (r : Bool) (ss' : List Shelf) → HoldsAt ss p a x u r ss' → HeldAt ss p a x u true ss'
   held_for_sure r ss' h =

@@ -6,19 +6,15 @@
 --   heard_in    the author's note was heard
 --   stays       the row is for another author or note, or its set does not contain u
 --   holding     the rows that stay, and u held for this author and note, last
-use Rattle.std.specs.Prelude.{ℕ, Bool, false, not, ◌&&◌, ◌||◌, List, [], ◌∷◌, ◌++◌, filter, ◌==◌}
+use Rattle.std.specs.Prelude.{ℕ, Bool, not, ◌&&◌, List, [], ◌∷◌, ◌++◌, filter, ◌==◌}
+use Rattle.std.specs.List.{list_any}
 use Rattle.sets.specs.Sets.{inside}
 use Rattle.frames.specs.declared.notes.Note.{Note}
-use Rattle.frames.specs.declared.notes.Step.TheVariants.{Send}
-use Rattle.frames.specs.Notes.{note, same_note}
+use Rattle.frames.specs.Notes.{same_note}
 use Rattle.shelves.specs.declared.kinds.Row.{Row}
 
 abbrev pub row_of : ℕ → Note → ℕ → Row
 row_of a x u = record { note = x; author = a; held = u }
-
--- what stands where no row is
-abbrev pub no_row : Row
-no_row = row_of 0 (note Send 0 0 0) 0
 
 abbrev pub keyed : ℕ → Note → Row → Bool
 keyed a x r = r.author == a && same_note r.note x
@@ -27,8 +23,7 @@ abbrev pub covers : ℕ → Note → ℕ → Row → Bool
 covers a x u r = keyed a x r && inside r.held u
 
 abbrev pub covered : List Row → ℕ → Note → ℕ → Bool
-covered [] a x u = false
-covered (r ∷ rs) a x u = covers a x u r || covered rs a x u
+covered rs a x u = list_any (covers a x u) rs
 
 abbrev pub heard_in : List Row → ℕ → Note → Bool
 heard_in rs a x = covered rs a x 0

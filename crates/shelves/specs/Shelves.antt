@@ -9,20 +9,20 @@
 --   fewest       the fewest free rows on a shelf
 --   HeldAt       the same of all craft: the others keep their rows, and at most one row fewer is free
 --   HoldsAt      the same where the label may be none; then nothing changes
-use Rattle.std.specs.Prelude.{◌≡◌, ℕ, zero, suc, ◌+◌, ◌-◌, ◌≤◌, min, Bool, false, cond, List, length, take, replicate, MatchBool, filter, ◌≢◌, nat_lt, slice_index_or, refl}
+use Rattle.std.specs.Prelude.{◌≡◌, ℕ, zero, suc, ◌+◌, ◌-◌, ◌≤◌, min, Bool, false, cond, List, [], length, MatchBool, filter, ◌≢◌, nat_lt, slice_index_or}
 use Rattle.std.proofs.Common.{zero-le}
 use Rattle.sets.specs.Sets.{labels}
 use Rattle.frames.specs.declared.notes.Note.{Note}
 use Rattle.shelves.specs.declared.kinds.Row.{Row}
 use Rattle.shelves.specs.declared.kinds.Shelf.{Shelf}
 use Rattle.shelves.specs.Lengths.{shelf_length}
-use Rattle.shelves.specs.Rows.{no_row, stays, holding, heard_in}
+use Rattle.shelves.specs.Rows.{stays, holding, heard_in}
 
 abbrev pub rows_of : Shelf → List Row
-rows_of s = take s.len s.rows
+rows_of s = s.rows.items
 
 abbrev pub empty_shelf : Shelf
-empty_shelf = record { rows = replicate shelf_length no_row; len = 0; few = zero-le; sized = refl }
+empty_shelf = record { rows = record { items = [] }; few = zero-le }
 
 abbrev pub shelf_at : List Shelf → ℕ → Shelf
 shelf_at ss p = slice_index_or ss p empty_shelf
@@ -41,7 +41,7 @@ Held rs a x u r rs' = (r ≡ room rs a x u) × (rs' ≡ cond r (holding rs a x u
 
 abbrev pub fewest_below : List Shelf → ℕ → ℕ
 fewest_below ss zero = shelf_length
-fewest_below ss (suc k) = min (shelf_length - (shelf_at ss k).len) (fewest_below ss k)
+fewest_below ss (suc k) = min (shelf_length - length (rows_at ss k)) (fewest_below ss k)
 
 abbrev pub fewest : List Shelf → ℕ
 fewest ss = fewest_below ss labels

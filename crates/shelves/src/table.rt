@@ -7,6 +7,7 @@ ghost use Rattle.shelves.specs.Shelves.{rows_at, HoldsAt, fewest};
 use crate::kinds::{Shelf, Table};
 use frames::Note;
 use sets::{CraftSet, LABELS};
+use std::array;
 
 impl Table {
     // Nothing is held.
@@ -14,17 +15,9 @@ impl Table {
         ensures rows { (p : ℕ) → rows_at result.at p ≡ [] }
         ensures free { fewest result.at ≡ shelf_length }
     {
-        let at = [
-            Shelf::new(),
-            Shelf::new(),
-            Shelf::new(),
-            Shelf::new(),
-            Shelf::new(),
-            Shelf::new(),
-            Shelf::new(),
-            Shelf::new(),
-        ];
-        Table { at }
+        Table {
+            at: array::from_fn(|_| Shelf::new()),
+        }
     }
 
     // Whether a craft holds a set within this one for the author and the note; a label that no craft has holds nothing.
@@ -41,20 +34,17 @@ impl Table {
     pub fn free(&self) -> usize
         ensures { result ≡ fewest self.now.at }
     {
-        let mut least = Shelf::LENGTH;
-        for shelf in &self.at {
-            let free = shelf.free();
-            if free < least {
-                least = free;
-            }
-        }
-        least
+        self.at
+            .iter()
+            .map(Shelf::free)
+            .fold(Shelf::LENGTH, usize::min)
     }
 
     // A craft holds a set for the author and the note, in place of the sets that contain it. Answers whether there was room; a label that no craft has holds nothing.
     pub fn hold(&mut self, craft: u8, author: u8, note: &Note, set: CraftSet) -> bool
         ensures { HoldsAt self.old.at craft author note.now set result self.new.at }
     {
+        // `get_mut` of an array promises nothing of the other shelves.
         if craft >= LABELS {
             return false;
         }

@@ -1,26 +1,24 @@
-use Rattle.std.proofs.Common.{◌<◌, sym, ◌∙◌, arith}
-use Rattle.std.proofs.lemmas.List.{take_all}
-use Rattle.std.proofs.lemmas.Bool.{both_ways}
-use Rattle.sets.specs.Sets.{shared}
-use Rattle.shelves.specs.Rows.{no_row}
-use Rattle.pathsets.proofs.RowSets.{has_sets, all_sets_more}
-use Rattle.pathsets.proofs.HittingLaws.{meets_all, meets_none}
+use Rattle.std.proofs.Common.{◌≡◌, ℕ, not, Option, MatchOption, sym, ◌∙◌, subst, rules}
+use borrow.Author.Tests.{tests}
+use Rattle.std.specs.List.{ContainsAt as Has, find}
+use Rattle.std.proofs.lemmas.Iterator.{YieldsList-from_slice, YieldsList-from_map}
+use Rattle.std.proofs.lemmas.Iterator.Adapters.{option_map_id}
+use Rattle.std.proofs.lemmas.Iterator.Consumers.{YieldsList-at, YieldsList-from_filter}
+use Rattle.std.proofs.lemmas.Iterator.Search.{find_from_yields_List}
+use Rattle.sets.specs.Sets.{shared, meeting}
+use Rattle.shelves.specs.declared.kinds.Row.{Row}
+use Rattle.shelves.specs.Rows.{keyed}
+use Rattle.pathsets.specs.Hitting.{Hits}
+use Rattle.pathsets.specs.Keys.{sets_of}
+use Rattle.pathsets.proofs.HittingLaws.{unmet}
 use Rattle.pathsets.proofs.search.first_unmet.Goals as goal
-use Rattle.pathsets.proofs.search.first_unmet.Goals.{else-is_for-via-then-is_for+else-not-meets, else-is_for-via-else-is_for}
-
-pub returns-then-not-meets : goal.returns-then-not-meets
-returns-then-not-meets c = (
-  has_sets c.args.author c.args.note.now c.args.rows.now c.loop-row.row-index no_row c.loop-row-test.true (sym c.if-is_for.ensures),
-  meets_none _ c.args.chosen (sym c.if-not-meets.ensures.answer),
-)
-
-pub loop-row-preserved : goal.loop-row-preserved
-loop-row-preserved c =
-    all_sets_more (λ s. 0 < shared s c.args.chosen) c.args.author c.args.note.now c.args.rows.now c.loop-row.row-index no_row c.loop-row-test.true c.loop-row.invariant
-    (λ e. elim c.else-is_for.branch [
-      | else-is_for-via-then-is_for+else-not-meets w ↦ meets_all _ c.args.chosen (sym w.if-not-meets.ensures.answer)
-      | else-is_for-via-else-is_for w ↦ absurd (both_ways c.is_for.result w.if-is_for.false (c.is_for.ensures ∙ e))
-    ])
 
 pub returns : goal.returns
-returns c = rw (take_all c.loop-row.row-index c.args.rows.now (omega arith)) at c.loop-row.invariant
+returns c =
+    let ss = sets_of c.args.author c.args.note.now c.args.rows.now in
+    let found : c.find.result ≡ find (λ (s : ℕ). not (meeting s c.args.chosen)) ss =
+    sym (option_map_id c.find.result) ∙ find_from_yields_List (λ (s : ℕ). not (meeting s c.args.chosen)) _ _ c.find.result c.find.ensures.ran
+    (YieldsList-from_map _ (λ (r : Row). r.held)
+    (YieldsList-at c.map.ensures.source (YieldsList-from_filter _ (keyed c.args.author c.args.note.now)
+    (YieldsList-at c.filter.ensures.source (YieldsList-from_slice c.args.rows.now cc)) c.filter.ensures.closure (λ x r q k. search (rules, tests)))) c.map.ensures.closure (λ x r q k. search rules)) (λ x b q k. search (rules, tests)) in
+    subst (λ (r : Option ℕ). MatchOption r (Hits c.args.chosen ss) (λ s. Has ss s × (shared s c.args.chosen ≡ 0))) (sym found) (unmet c.args.chosen ss)

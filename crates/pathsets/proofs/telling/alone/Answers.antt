@@ -1,33 +1,23 @@
-use Rattle.std.proofs.Common.{ℕ, List, get_or, sym, ap, ◌∙◌}
-use Rattle.std.proofs.lemmas.List.{take_all}
-use Rattle.sets.specs.Sets.{union}
+use Rattle.std.proofs.Common.{ℕ, eqb, ◌∙◌, rules}
+use lib.Bits.{or_zero_l}
+use borrow.Author.Tests.{tests}
+use Rattle.std.proofs.lemmas.Iterator.{YieldsList-from_slice, YieldsList-from_map}
+use Rattle.std.proofs.lemmas.Iterator.Consumers.{YieldsList-at, YieldsList-from_filter, fold_from_yields_List}
+use Rattle.sets.specs.Sets.{union, count}
 use Rattle.shelves.specs.declared.kinds.Row.{Row}
-use Rattle.shelves.specs.Rows.{no_row}
+use Rattle.shelves.specs.Rows.{keyed}
 use Rattle.pathsets.specs.Families.{singles}
 use Rattle.pathsets.specs.Keys.{sets_of}
-use Rattle.pathsets.proofs.Singles.{singles_more_lone, singles_more_many, singles_more_out}
+use Rattle.pathsets.proofs.Singles.{singles_folded}
 use Rattle.pathsets.proofs.telling.alone.Goals as goal
-use Rattle.pathsets.proofs.telling.alone.Goals.{then-is_for+then-count-eq1, else-is_for, else-is_for-via-then-is_for+else-count-eq1, else-is_for-via-else-is_for}
-
-pub loop-row-preserved : goal.loop-row-preserved
-loop-row-preserved c =
-    let a = c.args.author in
-    let x = c.args.note.now in
-    let rs = c.args.rows.now in
-    let i = c.loop-row.row-index in
-    let l = c.loop-row-test.true in
-    elim c.if-is_for.branch [
-      | then-is_for+then-count-eq1 w ↦
-          w.craft-is ∙ ap (λ (s : ℕ). union s (get_or rs i no_row).held) c.loop-row.invariant
-          ∙ sym (singles_more_lone a x rs i no_row l (sym w.if-is_for.ensures) (sym w.count.ensures ∙ w.if-count-eq1.true))
-      | else-is_for w ↦
-          w.craft-is ∙ c.loop-row.invariant ∙ elim w.else-is_for.branch [
-            | else-is_for-via-then-is_for+else-count-eq1 v ↦ sym (singles_more_many a x rs i no_row l (sym v.if-is_for.ensures) (λ e. v.if-count-eq1.false (v.count.ensures ∙ e)))
-            | else-is_for-via-else-is_for v ↦ sym (singles_more_out a x rs i no_row l (sym v.if-is_for.ensures))
-          ]
-    ]
 
 pub returns : goal.returns
 returns c =
-    c.loop-row.invariant
-    ∙ ap (λ (t : List Row). singles (sets_of c.args.author c.args.note.now t)) (take_all c.loop-row.row-index c.args.rows.now c.loop-row-test.false)
+    let ss = sets_of c.args.author c.args.note.now c.args.rows.now in
+    fold_from_yields_List _ (λ (m s : ℕ). union m s) 0 c.fold.result c.fold.ensures.ran
+    (YieldsList-from_filter _ (λ (s : ℕ). eqb (count s) 1)
+    (YieldsList-at c.filter-2.ensures.source (YieldsList-from_map _ (λ (r : Row). r.held)
+    (YieldsList-at c.map.ensures.source (YieldsList-from_filter _ (keyed c.args.author c.args.note.now)
+    (YieldsList-at c.filter.ensures.source (YieldsList-from_slice c.args.rows.now cc)) c.filter.ensures.closure (λ x r q k. search (rules, tests)))) c.map.ensures.closure (λ x r q k. search rules)))
+    c.filter-2.ensures.closure (λ x r q k. search (rules, tests))) (λ a x b q k. search rules)
+    ∙ singles_folded 0 ss ∙ or_zero_l (singles ss)

@@ -2,7 +2,7 @@ use Rattle.std.proofs.Common.{◌<◌, Some, None, Err, Option, Result, sym, ref
 use Rattle.std.proofs.lemmas.Result.{err_from_is_err_and}
 use Rattle.refusals.specs.declared.Fault.{Fault}
 use Rattle.shelves.specs.Shelves.{fewest, rows_at}
-use Rattle.pathsets.specs.declared.outcome.Outcome.{Outcome}
+use Rattle.pathsets.specs.Outcomes.{is_heard}
 use Rattle.pathsets.proofs.ShelfSteps.{heard-fits}
 use Rattle.relaying.specs.States.{listener}
 use Rattle.carriers.specs.declared.heard.Heard.{Heard}
@@ -48,8 +48,8 @@ returns-in_err-pass_on g c =
       exact = error (λ r. CarriesRelay m d k r d') (inr (stopped d.passed p k e w at o c.row.result _ is free take takes w' x.0 refused), refl);
     }
 
-pub returns-then-not-out : goal.returns-then-not-out
-returns-then-not-out g c =
+pub returns-then-not-heard : goal.returns-then-not-heard
+returns-then-not-heard g c =
     let m = g.L.LinkService.meaning in
     let d = c.args.self.now in
     let p = parts m d.base in
@@ -67,7 +67,7 @@ returns-then-not-out g c =
     let is = c.row.ensures.answer in
     let takes = c.take_in_at-out.ensures in
     let on = c.in_ok-pass_on.ensures in
-    let quiet = ap (λ (r : Outcome). r.heard) (sym (out_is d.passed p k e w at o c.row.result _ is free take takes)) ∙ c.if-not-out.true in
+    let quiet = ap is_heard (sym (out_is d.passed p k e w at o c.row.result _ is free take takes)) ∙ sym c.heard.ensures ∙ c.if-not-heard.true in
     let answer = sym (quiet_told d.passed p e quiet) in
     let co : CarriedOn d.passed p k e None p' = carried_on d.passed p k e w at o c.row.result _ is free take takes w' tt on None answer in
     record {
@@ -97,7 +97,7 @@ returns g c =
     let is = c.row.ensures.answer in
     let takes = c.take_in_at-out.ensures in
     let on = c.in_ok-pass_on.ensures in
-    let hears = ap (λ (r : Outcome). r.heard) (sym (out_is d.passed p k e w at o c.row.result _ is free take takes)) ∙ c.if-not-out.false in
+    let hears = ap is_heard (sym (out_is d.passed p k e w at o c.row.result _ is free take takes)) ∙ sym c.heard.ensures ∙ c.if-not-heard.false in
     let answer = sym (heard-told d.passed p e hears) in
     let co : CarriedOn d.passed p k e (Some (heard_by e)) p' = carried_on d.passed p k e w at o c.row.result _ is free take takes w' tt on (Some (heard_by e)) answer in
     let fit = heard-fits (listener (setting d.passed) e.to) e.from e.frame (rows_at d.base.store.table.at e.to) hears in

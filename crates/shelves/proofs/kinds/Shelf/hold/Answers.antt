@@ -1,43 +1,43 @@
-use Rattle.std.proofs.Common.{◌<◌, List, [], ◌∷◌, ◌++◌, length, filter, sym, ap, ◌∙◌, arith, length-take}
-use Rattle.std.proofs.lemmas.List.{take_more_set}
+use Rattle.std.proofs.Common.{◌≡◌, ℕ, ◌+◌, ◌<◌, ◌≤◌, ◌↔◌, Bool, List, [], ◌∷◌, ◌++◌, length, filter, IsOk, OnOk, OnErr, sym, ap, subst, refl, ◌∙◌, arith, length-append}
+use Rattle.std.specs.Result.{is_ok}
+use Rattle.std.specs.declared.result.Result.{Result}
+use Rattle.std.specs.declared.result.Result.TheVariants.{Ok, Err}
 use Rattle.std.proofs.lemmas.Bool.{le-ltb, lt-ltb}
+use Rattle.arrayvec.specs.ArrayVec.{ArrayVec}
+use Rattle.frames.specs.declared.notes.Note.{Note}
 use Rattle.shelves.specs.declared.kinds.Row.{Row}
+use Rattle.shelves.specs.Lengths.{shelf_length}
 use Rattle.shelves.specs.Rows.{stays, row_of}
-use Rattle.shelves.specs.Shelves.{rows_of}
-use Rattle.shelves.proofs.Kept.{kept_full}
+use Rattle.shelves.specs.Shelves.{Held}
+use Rattle.shelves.proofs.Kept.{kept_le, kept_full}
 use Rattle.shelves.proofs.kinds.Shelf.hold.Goals as goal
 
-pub returns-then-at-ge-LENGTH : goal.returns-then-at-ge-LENGTH
-returns-then-at-ge-LENGTH c =
-    let d = c.drop_above.ensures in
-    let before = rows_of c.args.self.now in
-    let after = c.drop_above.new.self in
-    let p = stays c.args.author c.args.note.now c.args.set in
-    let l = ap length d.rows in
-    let m = length-take after.len after.rows in
-    let n = length-take c.args.self.now.len c.args.self.now.rows in
-    record {
-      rows = (
-        sym (le-ltb (length (filter p before)) 120 (omega arith)),
-        d.rows ∙ kept_full p before (omega arith),
-      );
-      more = omega (arith, d.fewer);
-    }
+module _ {E : Type 0} (rs : List Row) (a : ℕ) (x : Note) (u : ℕ) (few : length rs ≤ shelf_length) (v w : ArrayVec Row) (rest : v.items ≡ filter (stays a x u) rs) where
+  pushed : (r : Result (Unit {0}) E) → (IsOk r ↔ (length v.items < shelf_length)) → OnErr r (length v.items ≡ shelf_length) → OnOk r (w.items ≡ v.items ++ row_of a x u ∷ []) → OnErr r (w ≡ v)
+      → Held rs a x u (is_ok r) w.items × (length w.items ≤ length rs + 1)
+  pushed (Ok o) variant full ok err =
+      let l = ap length rest in
+      let n = ap length ok in (
+        (
+          sym (lt-ltb (length (filter (stays a x u) rs)) shelf_length (omega (arith, variant.0 refl))),
+          ok ∙ ap (λ (t : List Row). t ++ row_of a x u ∷ []) rest,
+        ),
+        omega (arith, kept_le (stays a x u) rs, length-append v.items (row_of a x u ∷ [])),
+      )
+  pushed (Err e) variant full ok err =
+      let l = ap length rest in
+      let all = kept_full (stays a x u) rs (omega arith) in
+      let same = ap (λ (t : ArrayVec Row). t.items) err ∙ rest ∙ all in
+      let n = ap length same in (
+        (sym (le-ltb (length (filter (stays a x u) rs)) shelf_length (omega arith)), same),
+        omega arith,
+      )
 
 pub returns : goal.returns
 returns c =
-    let d = c.drop_above.ensures in
-    let before = rows_of c.args.self.now in
-    let after = c.drop_above.new.self in
-    let p = stays c.args.author c.args.note.now c.args.set in
-    let l = ap length d.rows in
-    let m = length-take after.len after.rows in
-    let row = row_of c.args.author c.args.note.now c.args.set in
-    let here : after.len < length after.rows = omega arith in
+    let t = c.try_push.ensures in
+    let both = pushed (c.args.self.now.rows.items) c.args.author c.args.note.now c.args.set c.args.self.now.few c.drop_above.new.self.rows c.try_push.new.self c.drop_above.ensures c.try_push.result t.variant t.full t.ok t.err in
     record {
-      rows = (
-        sym (lt-ltb (length (filter p before)) 120 (omega arith)),
-        take_more_set after.rows after.len row here ∙ ap (λ (t : List Row). t ++ row ∷ []) d.rows,
-      );
-      more = omega (arith, d.fewer);
+      rows = subst (λ (b : Bool). Held c.args.self.now.rows.items c.args.author c.args.note.now c.args.set b c.try_push.new.self.items) (sym c.is_ok.ensures.value) both.0;
+      more = both.1;
     }
