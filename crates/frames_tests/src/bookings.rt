@@ -2,20 +2,17 @@
 use frames::{Booking, Fault, Layer, Refusal};
 use std::test::Fail;
 
-fn refused(refusal: Refusal) -> Option<Fault> {
-    Some(Layer::Frames.refuses(refusal))
+fn refused<T>(refusal: Refusal) -> Result<T, Fault> {
+    Err(Layer::Frames.refuses(refusal))
 }
 
 #[test]
 fn labels_and_numbers(rt: HostRuntime) {
-    assert_eq!(rt; Booking::new(7, 7, 3, 0).err(), None);
-    assert_eq!(rt; Booking::new(8, 0, 0, 0).err(), refused(Refusal::Label(8)));
-    assert_eq!(rt;
-        Booking::new(0, 255, 0, 0).err(),
-        refused(Refusal::Label(255))
-    );
-    assert_eq!(rt; Booking::new(9, 8, 4, 0).err(), refused(Refusal::Label(9)));
-    assert_eq!(rt; Booking::new(0, 0, 4, 0).err(), refused(Refusal::Number(4)));
+    assert!(rt; Booking::new(7, 7, 3, 0).is_ok());
+    assert_eq!(rt; Booking::new(8, 0, 0, 0), refused(Refusal::Label(8)));
+    assert_eq!(rt; Booking::new(0, 255, 0, 0), refused(Refusal::Label(255)));
+    assert_eq!(rt; Booking::new(9, 8, 4, 0), refused(Refusal::Label(9)));
+    assert_eq!(rt; Booking::new(0, 0, 4, 0), refused(Refusal::Number(4)));
 }
 
 #[test]
@@ -31,18 +28,12 @@ fn lines_in_their_place(rt: HostRuntime) -> Result<(), Fail> {
 fn lines_that_do_not_fit(rt: HostRuntime) -> Result<(), Fail> {
     let booking = Booking::new(0, 0, 0, u64::MAX)?;
     let mut buf = [b'.'; 28];
+    assert_eq!(rt; booking.write_at(&mut buf, 1), refused(Refusal::Short(29)));
     assert_eq!(rt;
-        booking.write_at(&mut buf, 1).err(),
-        refused(Refusal::Short(29))
-    );
-    assert_eq!(rt;
-        booking.write_at(&mut buf[0..27], 0).err(),
+        booking.write_at(&mut buf[0..27], 0),
         refused(Refusal::Short(28))
     );
-    assert_eq!(rt;
-        booking.write_at(&mut [], 0).err(),
-        refused(Refusal::Short(28))
-    );
+    assert_eq!(rt; booking.write_at(&mut [], 0), refused(Refusal::Short(28)));
     assert_eq!(rt; buf, [b'.'; 28]);
     Ok(())
 }
@@ -52,11 +43,11 @@ fn places_near_the_greatest_number(rt: HostRuntime) -> Result<(), Fail> {
     let booking = Booking::new(0, 0, 0, u64::MAX)?;
     let mut buf = [b'.'; 28];
     assert_eq!(rt;
-        booking.write_at(&mut buf, usize::MAX - 28).err(),
+        booking.write_at(&mut buf, usize::MAX - 28),
         refused(Refusal::Short(usize::MAX))
     );
     assert_eq!(rt;
-        booking.write_at(&mut buf, usize::MAX).err(),
+        booking.write_at(&mut buf, usize::MAX),
         refused(Refusal::Short(usize::MAX))
     );
     assert_eq!(rt; buf, [b'.'; 28]);
@@ -67,7 +58,7 @@ fn places_near_the_greatest_number(rt: HostRuntime) -> Result<(), Fail> {
 fn a_line_that_fits_exactly(rt: HostRuntime) -> Result<(), Fail> {
     let booking = Booking::new(0, 0, 0, u64::MAX)?;
     let mut buf = [b'.'; 28];
-    assert_eq!(rt; booking.write_at(&mut buf, 0).err(), None);
+    assert_eq!(rt; booking.write_at(&mut buf, 0), Ok(()));
     assert_eq!(rt; buf, *b"book 0 0 0 ffffffffffffffff\n");
     Ok(())
 }

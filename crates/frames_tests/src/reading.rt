@@ -1,13 +1,20 @@
 // The frame reader, at the edges of what it judges.
-use frames::{FRAME_VERSION, Fault, Frame, Layer, Note, Received, Refusal, Step, read_frame};
-use std::test::Fail;
+use frames::{FRAME_VERSION, Fault, Frame, Head, Layer, Note, Received, Refusal, Step, read_frame};
 
 const SEND: [u8; 15] = [
     15, 1, 1, 0, 0, 0, 0, 0x01, 0x01, 0x2C, 0x00, 0x0E, 0x10, 0x0C, 0x01,
 ];
 
-fn refused(refusal: Refusal) -> Option<Fault> {
-    Some(Layer::Frames.refuses(refusal))
+// What stands between its step and its content.
+const HEAD: Head = Head {
+    author: 0,
+    origin: 0,
+    number: 0,
+    set: 0,
+};
+
+fn refused<T>(refusal: Refusal) -> Result<T, Fault> {
+    Err(Layer::Frames.refuses(refusal))
 }
 
 // The frame's bytes with one of them changed.
@@ -21,50 +28,38 @@ fn changed(at: usize, byte: u8) -> [u8; 15] {
 
 #[test]
 fn lengths_other_than_fifteen(rt: HostRuntime) {
-    assert_eq!(rt; Frame::from_bytes(&[]).err(), refused(Refusal::Cut));
-    assert_eq!(rt; Frame::from_bytes(&[15]).err(), refused(Refusal::Cut));
-    assert_eq!(rt; Frame::from_bytes(&SEND[0..7]).err(), refused(Refusal::Cut));
-    assert_eq!(rt;
-        Frame::from_bytes(&SEND[0..14]).err(),
-        refused(Refusal::Cut)
-    );
+    assert_eq!(rt; Frame::from_bytes(&[]), refused(Refusal::Cut));
+    assert_eq!(rt; Frame::from_bytes(&[15]), refused(Refusal::Cut));
+    assert_eq!(rt; Frame::from_bytes(&SEND[0..7]), refused(Refusal::Cut));
+    assert_eq!(rt; Frame::from_bytes(&SEND[0..14]), refused(Refusal::Cut));
     let long = [15, 1, 1, 0, 0, 0, 0, 1, 2, 3, 4, 5, 6, 7, 8, 9];
-    assert_eq!(rt; Frame::from_bytes(&long).err(), refused(Refusal::Cut));
-    assert_eq!(rt;
-        Frame::from_bytes(&changed(0, 14)).err(),
-        refused(Refusal::Cut)
-    );
-    assert_eq!(rt;
-        Frame::from_bytes(&changed(0, 16)).err(),
-        refused(Refusal::Cut)
-    );
+    assert_eq!(rt; Frame::from_bytes(&long), refused(Refusal::Cut));
+    assert_eq!(rt; Frame::from_bytes(&changed(0, 14)), refused(Refusal::Cut));
+    assert_eq!(rt; Frame::from_bytes(&changed(0, 16)), refused(Refusal::Cut));
 }
 
 #[test]
 fn versions_and_steps(rt: HostRuntime) {
     assert_eq!(rt;
-        Frame::from_bytes(&changed(1, 0)).err(),
+        Frame::from_bytes(&changed(1, 0)),
         refused(Refusal::Version(FRAME_VERSION))
     );
     assert_eq!(rt;
-        Frame::from_bytes(&changed(1, 2)).err(),
+        Frame::from_bytes(&changed(1, 2)),
         refused(Refusal::Version(1))
     );
     assert_eq!(rt;
-        Frame::from_bytes(&changed(2, 0)).err(),
+        Frame::from_bytes(&changed(2, 0)),
         refused(Refusal::Unknown)
     );
     assert_eq!(rt;
-        Frame::from_bytes(&changed(2, 4)).err(),
+        Frame::from_bytes(&changed(2, 4)),
         refused(Refusal::Unknown)
     );
     // of several causes the first is told: length, version, step
-    assert_eq!(rt; Frame::from_bytes(&[9, 9, 9]).err(), refused(Refusal::Cut));
+    assert_eq!(rt; Frame::from_bytes(&[9, 9, 9]), refused(Refusal::Cut));
     let both = [15, 9, 9, 0, 0, 0, 0, 0, 0, 0, 0, 0, 0, 0, 0];
-    assert_eq!(rt;
-        Frame::from_bytes(&both).err(),
-        refused(Refusal::Version(1))
-    );
+    assert_eq!(rt; Frame::from_bytes(&both), refused(Refusal::Version(1)));
 }
 
 #[test]
@@ -85,33 +80,17 @@ fn nothing_else_is_judged(rt: HostRuntime) {
 }
 
 #[test]
-fn content_is_part_of_the_bytes(rt: HostRuntime) -> Result<(), Fail> {
-    match read_frame(&SEND) {
-        Ok(Received::Send(head, content)) => {
-            assert_eq!(rt; head.author, 0);
-            assert_eq!(rt; content, &SEND[7..15]);
-            Ok(())
-        }
-        _ => Err(Fail::new("no Send was read")),
-    }
+fn content_is_part_of_the_bytes(rt: HostRuntime) {
+    assert_eq!(rt; read_frame(&SEND), Ok(Received::Send(HEAD, &SEND[7..15])));
 }
 
 #[test]
-fn a_made_up_content(rt: HostRuntime) -> Result<(), Fail> {
-    match read_frame(&SEND) {
-        Ok(Received::Send(head, content)) => {
-            assert_eq!(rt;
-                Received::Send(head, &content[0..7]).frame().err(),
-                refused(Refusal::Cut)
-            );
-            assert_eq!(rt;
-                Received::Echo(head, &SEND).frame().err(),
-                refused(Refusal::Cut)
-            );
-            Ok(())
-        }
-        _ => Err(Fail::new("no Send was read")),
-    }
+fn a_made_up_content(rt: HostRuntime) {
+    assert_eq!(rt;
+        Received::Send(HEAD, &SEND[7..14]).frame(),
+        refused(Refusal::Cut)
+    );
+    assert_eq!(rt; Received::Echo(HEAD, &SEND).frame(), refused(Refusal::Cut));
 }
 
 #[test]
