@@ -14,23 +14,16 @@ fn refused(refusal: Refusal) -> Option<Fault> {
 // Refusals of puts on four craft, all linked: by 1 before 9, nothing put.
 fn refuses_puts<L: LinkService>(rt: &impl Abort, links: &mut L) {
     let spare = links.spare();
-    assert_eq!(rt; links.put(4, 0, frame(1)).err(), refused(Refusal::Label(4)));
-    assert_eq!(rt;
-        links.put(255, 1, frame(1)).err(),
-        refused(Refusal::Label(255))
-    );
-    assert_eq!(rt;
-        links.put(2, 0, frame(1)).err(),
-        refused(Refusal::NoLink(2))
-    );
-    assert_eq!(rt;
-        links.put(2, 0b0100, frame(1)).err(),
-        refused(Refusal::NoLink(2))
-    );
-    assert_eq!(rt;
-        links.put(2, 0b1_0001, frame(1)).err(),
-        refused(Refusal::NoLink(2))
-    );
+    let puts = [
+        (4, 0, Refusal::Label(4)),
+        (255, 1, Refusal::Label(255)),
+        (2, 0, Refusal::NoLink(2)),
+        (2, 0b0100, Refusal::NoLink(2)),
+        (2, 0b1_0001, Refusal::NoLink(2)),
+    ];
+    for (from, set, refusal) in puts {
+        assert_eq!(rt; links.put(from, set, frame(1)).err(), refused(refusal));
+    }
     assert_eq!(rt; links.waiting(), 0);
     assert_eq!(rt; links.spare(), spare);
 }
