@@ -34,7 +34,7 @@ pub enum Received<'a> {
 pub fn read_frame(bytes: &[u8]) -> Result<Received<'_>, Fault>
     ensures { ReadsAs bytes.now result }
 {
-    let [
+    let &[
         length,
         version,
         step,
@@ -42,23 +42,23 @@ pub fn read_frame(bytes: &[u8]) -> Result<Received<'_>, Fault>
         origin,
         number,
         set,
-        content @ ..,
+        ref content @ ..,
     ] = bytes
     else {
         return Err(Layer::Frames.refuses(Refusal::Cut));
     };
-    if *length != FRAME_LENGTH || content.len() != CONTENT_LENGTH {
+    if length != FRAME_LENGTH || content.len() != CONTENT_LENGTH {
         return Err(Layer::Frames.refuses(Refusal::Cut));
     }
-    if *version != FRAME_VERSION {
+    if version != FRAME_VERSION {
         return Err(Layer::Frames.refuses(Refusal::Version(FRAME_VERSION)));
     }
-    let step = Step::try_from(*step)?;
+    let step = Step::try_from(step)?;
     let head = Head {
-        author: *author,
-        origin: *origin,
-        number: *number,
-        set: *set,
+        author,
+        origin,
+        number,
+        set,
     };
     Ok(match step {
         Step::Send => Received::Send(head, content),
