@@ -1,10 +1,9 @@
 -- Which of the causes that are tested in turn is answered. Assumes nothing.
 --   turn_none   where none is answered, none of any number's is
 --   none_turn   where none of any number's is answered, none is
---   turn_more   the turn at i answers none, as those before it
 --   turn_at     the turn at i answers, and those before it do not: that is the answer
 --   turn_some   an answer is that of one number, and those before it have none
-use Rattle.std.proofs.Common.{◌≡◌, ℕ, zero, suc, ◌+◌, ◌<◌, ◌⊎◌, List, [], ◌∷◌, ◌++◌, Some, None, Option, sym, refl, ap, ◌∙◌, inl, inr, ⊎_elim, arith}
+use Rattle.std.proofs.Common.{◌≡◌, ℕ, zero, suc, ◌<◌, ◌⊎◌, List, [], ◌∷◌, ◌++◌, Some, None, Option, sym, refl, ap, ◌∙◌, inl, inr, ⊎_elim, arith}
 use Rattle.std.proofs.lemmas.Bool.{cases_Bool, cases_eq, cond-true, cond-false}
 use Rattle.refusals.specs.Refusals.{Cause, Told, refusal}
 use Rattle.refusals.proofs.FirstCause.{passed}
@@ -57,10 +56,6 @@ module _ (g : ℕ → List Cause) where
   unfolding in_turn
   none_turn zero h = refl
   none_turn (suc k) h = append_later (in_turn g k) (g k) (none_turn k (λ i l. h i (omega arith))) ∙ h k (omega arith)
-
-  pub turn_more : (i : ℕ) → refusal (in_turn g i) ≡ None → refusal (g i) ≡ None → refusal (in_turn g (i + 1)) ≡ None
-  turn_more i p q = none_turn (i + 1) (λ j l.
-      ⊎_elim (λ (e : j ≡ i). ap (λ (x : ℕ). refusal (g x)) e ∙ q) (λ ne. turn_none i j p (omega arith)) (cases_eq j i))
 
   pub turn_at : (k i : ℕ) (t : Told) → i < k → refusal (in_turn g i) ≡ None → refusal (g i) ≡ Some t → refusal (in_turn g k) ≡ Some t
   unfolding in_turn

@@ -13,7 +13,6 @@ mod tests {
     use charts::Chart;
     use cuts::{direct_test, open_direct, open_relay, parted};
     use refusals::{Layer, Refusal};
-    use std::test::Fail;
 
     // Every chart of so many craft is one of these.
     const OF_TWO: u16 = 2;
@@ -56,43 +55,25 @@ mod tests {
     }
 
     #[test]
-    fn refused_in_order(rt: HostRuntime) -> Result<(), Fail> {
-        let Err(size) = open_relay(&[2, 1, 0], 1) else {
-            assert!(rt; false);
-            return Ok(());
-        };
-        assert!(rt; size == Layer::Carriers.refuses(Refusal::Size(3)));
-        let Err(row) = open_direct(&[2, 1, 8, 0], 1) else {
-            assert!(rt; false);
-            return Ok(());
-        };
-        assert!(rt; row == Layer::Carriers.refuses(Refusal::Row(2)));
-        let Err(pair) = open_direct(&[12, 12, 11, 7], 1) else {
-            assert!(rt; false);
-            return Ok(());
-        };
-        assert!(rt; pair == Layer::Carriers.refuses(Refusal::Thin(0, 1, 0)));
+    fn refused_in_order(rt: HostRuntime) {
+        let size = Layer::Carriers.refuses(Refusal::Size(3));
+        assert_eq!(rt; open_relay(&[2, 1, 0], 1).err(), Some(size));
+        let row = Layer::Carriers.refuses(Refusal::Row(2));
+        assert_eq!(rt; open_direct(&[2, 1, 8, 0], 1).err(), Some(row));
+        let pair = Layer::Carriers.refuses(Refusal::Thin(0, 1, 0));
+        assert_eq!(rt; open_direct(&[12, 12, 11, 7], 1).err(), Some(pair));
         assert!(rt; open_direct(&[14, 13, 11, 7], 1).is_ok());
-        Ok(())
     }
 
     #[test]
-    fn asked_again(rt: HostRuntime) -> Result<(), Fail> {
-        // a path of four craft
-        let Ok(path) = Chart::new(&[2, 5, 10, 4], 1) else {
-            assert!(rt; false);
-            return Ok(());
-        };
+    fn asked_again(rt: HostRuntime) {
+        let path = Chart::new(&[2, 5, 10, 4], 1).expect(&rt, "a path of four craft");
         assert!(rt; !parted(&path, 0, 0, 3) && !parted(&path, 0, 2, 2));
         assert!(rt; parted(&path, 2, 0, 3) && parted(&path, 1, 0, 3));
         assert!(rt; parted(&path, 0, 0, 4) && parted(&path, 0, 4, 4));
         assert!(rt; parted(&path, 0, 255, 255));
         // a chart of four made with one faulty, tested with two
-        let Err(size) = direct_test(path, 2) else {
-            assert!(rt; false);
-            return Ok(());
-        };
-        assert!(rt; size == Layer::Carriers.refuses(Refusal::Size(4)));
-        Ok(())
+        let size = Layer::Carriers.refuses(Refusal::Size(4));
+        assert_eq!(rt; direct_test(path, 2).err(), Some(size));
     }
 }

@@ -19,100 +19,61 @@ fn is_member(set: u8, craft: u8) -> bool {
     craft < 8 && (set >> craft) % 2 == 1
 }
 
-fn size(set: u8) -> u8 {
-    let mut found: u8 = 0;
-    for craft in 0..8 {
-        if is_member(set, craft) {
-            found = found.saturating_add(1);
-        }
-    }
-    found
+fn size(set: u8) -> usize {
+    (0..8).filter(|craft| is_member(set, *craft)).count()
 }
 
 // Row a with what craft k leads to, where a leads to k.
 fn row_by(matrix: u64, k: u8, a: u8) -> u64 {
-    let mut all = matrix;
-    for b in 0..8 {
-        if entry(matrix, a, k) && entry(matrix, k, b) {
-            all = with_entry(all, a, b);
-        }
-    }
-    all
+    (0..8)
+        .filter(|b| entry(matrix, a, k) && entry(matrix, k, *b))
+        .fold(matrix, |all, b| with_entry(all, a, b))
 }
 
 fn by(matrix: u64, k: u8) -> u64 {
-    let mut all = matrix;
-    for a in 0..8 {
-        all = row_by(all, k, a);
-    }
-    all
+    (0..8).fold(matrix, |all, a| row_by(all, k, a))
 }
 
 // Which craft lead to which, by craft outside the set.
 fn closed(matrix: u64, set: u8) -> u64 {
-    let mut all = matrix;
-    for k in 0..8 {
-        if !is_member(set, k) {
-            all = by(all, k);
-        }
-    }
-    all
+    (0..8)
+        .filter(|k| !is_member(set, *k))
+        .fold(matrix, |all, k| by(all, k))
 }
 
 // The lowest set below `sets`, of at most `most` craft other than u and v, that leaves no way from u to v.
 fn slow_set(matrix: u64, sets: u8, most: u8, u: u8, v: u8) -> Option<u8> {
-    for set in 0..sets {
-        let other = !is_member(set, u) && !is_member(set, v);
-        if other && size(set) <= most && !entry(closed(matrix, set), u, v) {
-            return Some(set);
-        }
-    }
-    None
+    (0..sets)
+        .filter(|set| !is_member(*set, u) && !is_member(*set, v))
+        .filter(|set| size(*set) <= usize::from(most))
+        .find(|set| !entry(closed(matrix, *set), u, v))
 }
 
 fn slow_above(matrix: u64, n: u8, sets: u8, most: u8, u: u8) -> Option<Refusal> {
-    for v in 0..n {
-        if u < v {
-            if let Some(set) = slow_set(matrix, sets, most, u, v) {
-                return Some(Refusal::Thin(u, v, set));
-            }
-        }
-    }
-    None
+    (0..n).filter(|v| u < *v).find_map(|v| slow_set(matrix, sets, most, u, v).map(
+        |set| Refusal::Thin(u, v, set),
+    ))
 }
 
 fn slow_test(matrix: u64, n: u8, sets: u8, most: u8) -> Option<Refusal> {
-    for u in 0..n {
-        if let Some(refusal) = slow_above(matrix, n, sets, most, u) {
-            return Some(refusal);
-        }
-    }
-    None
+    (0..n).find_map(|u| slow_above(matrix, n, sets, most, u))
 }
 
-// Row u of the chart that the digits say, one for each pair, and the digits that are left.
+// The chart so far with row u as the digits say, one for each pair, and the digits that are left.
 fn links_above(matrix: u64, digits: u16, n: u8, u: u8) -> (u64, u16) {
-    let mut all = matrix;
-    let mut left = digits;
-    for v in 0..n {
-        if u < v {
+    (0..n)
+        .filter(|v| u < *v)
+        .fold((matrix, digits), |(all, left), v| {
             if left % 2 == 1 {
-                all = with_entry(with_entry(all, u, v), v, u);
+                (with_entry(with_entry(all, u, v), v, u), left / 2)
+            } else {
+                (all, left / 2)
             }
-            left /= 2;
-        }
-    }
-    (all, left)
+        })
 }
 
 fn links(digits: u16, n: u8) -> u64 {
-    let mut all = 0;
-    let mut left = digits;
-    for u in 0..n {
-        let (more, rest) = links_above(all, left, n, u);
-        all = more;
-        left = rest;
-    }
+    let (all, _) = (0..n).fold((0, digits), |(all, left), u| links_above(all, left, n, u));
     all
 }
 
@@ -126,22 +87,14 @@ fn agree(n: u8, f: u8, digits: u16) -> bool {
     let Ok(chart) = Chart::new(&rows[0..usize::from(n)], f) else {
         return false;
     };
-    let slow = slow_test(matrix, n, 1 << n, 2 * f);
-    match relay_test(chart, f) {
-        Ok(passed) => slow.is_none() && passed.f == f && passed.chart.n == n,
-        Err(fault) => match slow {
-            Some(refusal) => fault == Layer::Carriers.refuses(refusal),
-            None => false,
-        },
+    match (relay_test(chart, f), slow_test(matrix, n, 1 << n, 2 * f)) {
+        (Ok(passed), None) => passed.f == f && passed.chart.n == n,
+        (Err(fault), Some(refusal)) => fault == Layer::Carriers.refuses(refusal),
+        _ => false,
     }
 }
 
 // Whether they do on each of the first charts of n craft.
 pub(crate) fn all_agree(n: u8, f: u8, charts: u16) -> bool {
-    for digits in 0..charts {
-        if !agree(n, f, digits) {
-            return false;
-        }
-    }
-    true
+    (0..charts).all(|digits| agree(n, f, digits))
 }
