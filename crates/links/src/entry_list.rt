@@ -6,7 +6,7 @@ use charts::Chart;
 pub struct EntryList<'a> {
     // none before the start
     pub(crate) chart: Option<Chart>,
-    // the caller's memory, with the count of those that wait beside it: the project's rule is that the list is lent, never owned
+    // a slice with a length beside it, of those that wait: a rule of the project is that the service works in a list that its caller lends
     pub(crate) list: &'a mut [Entry],
     pub(crate) len: usize,
 }

@@ -1,13 +1,13 @@
 -- Where entries stand among the puts. Assumes nothing.
---   member_at       the place of a member of a set is the number of lower ones
---   length-sent     a put stands for as many entries as craft are to take it
---   entries_more    how many entries one put more stands for
---   entries_counted   how many entries puts stand for is the sum of the counts of their craft
---   stands_from_nth   a put has a craft to take it at a place among its members, so an entry stands there
---   past_from_nth     a put has no member at a place, so it has no more than so many
---   stands_within   an entry that stands somewhere is one of the entries
---   stands_entry    it is the entry of its put for its craft
---   entry_from_found  what was found is what waits at an index
+--   member_at          the member of a set that has k lower ones stands at place k
+--   entries_more       how many entries one put more stands for
+--   entries_counted    how many entries puts stand for is the sum of the counts of their craft
+--   stands_from_nth    where a put has a member at the place that is left of k, entry k is that of the put for this member
+--   past_from_nth      where it has none there, it has no more members than that
+--   inside_put         an entry has its place among the entries of its put
+--   stands_within      an entry that stands somewhere is one of the entries
+--   stands_entry       it is the entry of its put for its craft
+--   entry_from_found   what was found is what waits at an index
 use Rattle.std.proofs.Common.{◌≡◌, ℕ, zero, suc, ◌+◌, ◌^◌, ◌<◌, ◌≤◌, true, None, Some, Option, slice_get, cond, List, [], ◌∷◌, ◌++◌, length, get_or, take, sum_by, sym, refl, ap, ◌∙◌, subst, inl, inr, add-one, arith}
 use Rattle.std.specs.Option.{option_map}
 use Rattle.std.proofs.lemmas.List.{get_or_at, get_or_append_left, length-append, take_all, take_more, flat_map_more}
@@ -17,10 +17,11 @@ use Rattle.std.proofs.lemmas.List.Folds.{length-flat_map-take}
 use Rattle.std.proofs.lemmas.Option.{get_or_from_slice_get, slice_get_within, slice_get_cases}
 use Rattle.std.proofs.lemmas.Bool.{cases_lt, cases_Bool}
 use Rattle.sets.specs.Sets.{labels, has, count, each, members_of}
-use Rattle.sets.proofs.Each.{each_in, each_out, each-room, length-each, length-each-count}
+use Rattle.sets.proofs.Each.{each_in, each_out, each-room, length-each-count}
 use Rattle.sets.proofs.Removed.{each_at}
 use Rattle.links.specs.declared.entries.Entry.{Entry}
 use Rattle.links.specs.Calls.{EntryAt}
+use Rattle.links.proofs.Appends.{each_as_many}
 use Rattle.putlog.specs.declared.puts.LoggedPut.{LoggedPut}
 use Rattle.putlog.specs.Puts.{entries_of, all_entries, entry_for, no_put, put_at, StandsAt, Found}
 
@@ -47,10 +48,10 @@ member_at s (suc n) k d l = elim (cases_lt k (length (each (λ i. i) s n))) [
   ]
 ]
 
-pub length-sent : (p : LoggedPut) → p.to < 2 ^ labels → length (entries_of p) ≡ count p.to
+length-sent : (p : LoggedPut) → p.to < 2 ^ labels → length (entries_of p) ≡ count p.to
 length-sent p fits = length-each-count (entry_for p) p.to labels fits
 
-pub entries_push : (ps : List LoggedPut) (i : ℕ) → i < length ps → all_entries (take (i + 1) ps) ≡ all_entries (take i ps) ++ entries_of (put_at ps i)
+entries_push : (ps : List LoggedPut) (i : ℕ) → i < length ps → all_entries (take (i + 1) ps) ≡ all_entries (take i ps) ++ entries_of (put_at ps i)
 entries_push ps i l = ap all_entries (take_more ps i no_put l) ∙ sym (flat_map_more entries_of [] (take i ps) (put_at ps i))
 
 pub entries_more : (ps : List LoggedPut) (i : ℕ) → i < length ps → (put_at ps i).to < 2 ^ labels
@@ -72,9 +73,6 @@ entries_counted ps fits =
     let P : List LoggedPut → Type 0 = λ l. length (all_entries l) ≡ sum_by (λ p. count p.to) l in
     subst P (take_all (length ps) ps (omega arith)) (counted_front ps fits (length ps) (omega arith))
 
-same_length : (p : LoggedPut) (n : ℕ) → length (each (entry_for p) p.to n) ≡ length (each (λ j. j) p.to n)
-same_length p n = length-each (entry_for p) p.to n ∙ sym (length-each (λ j. j) p.to n)
-
 pub stands_from_nth : (ps : List LoggedPut) (k i left to : ℕ) → i < length ps → length (all_entries (take i ps)) + left ≡ k
     → slice_get (members_of (put_at ps i).to) left ≡ Some to → StandsAt ps k i to
 stands_from_nth ps k i left to within before at =
@@ -82,7 +80,7 @@ stands_from_nth ps k i left to within before at =
     let inside = slice_get_within (members_of p.to) left to at in
     let is : get_or (members_of p.to) left 0 ≡ to = get_or_from_slice_get (members_of p.to) left to 0 at in
     let m : IsMemberAt p.to labels left to = subst (λ (j : ℕ). IsMemberAt p.to labels left j) is (member_at p.to labels left 0 inside) in
-    record { within = within; label = m.label; member = m.member; place = omega (arith, same_length p to, m.lower) }
+    record { within = within; label = m.label; member = m.member; place = omega (arith, each_as_many (entry_for p) p.to to, m.lower) }
 
 pub past_from_nth : (p : LoggedPut) (left : ℕ) → p.to < 2 ^ labels → slice_get (members_of p.to) left ≡ None → count p.to ≤ left
 past_from_nth p left fits none = elim (slice_get_cases (members_of p.to) left).1 [

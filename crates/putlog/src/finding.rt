@@ -3,6 +3,7 @@ ghost use Rattle.std.specs.Prelude.{◌≡◌, ℕ, ◌<◌, ◌≤◌, length};
 ghost use Rattle.std.specs.List.{remove};
 ghost use Rattle.putlog.specs.Puts.{log_length, all_entries, Open, StandsAt, Found};
 
+use crate::log::PutLog;
 use crate::puts::LoggedPut;
 use arrayvec::ArrayVec;
 use links::Entry;
@@ -31,7 +32,7 @@ pub(crate) fn find(puts: &[LoggedPut], k: usize) -> Option<(usize, Entry)>
 }
 
 // Takes a craft out of put i. A put that no craft is left to take goes.
-pub(crate) fn strike(puts: &mut ArrayVec<LoggedPut, 128>, i: usize, to: u8)
+pub(crate) fn strike(puts: &mut ArrayVec<LoggedPut, { PutLog::LENGTH }>, i: usize, to: u8)
     requires { i < length puts.old.items }
     ensures rest { (k : ℕ) → StandsAt puts.old.items k i to → all_entries puts.new.items ≡ remove (all_entries puts.old.items) k }
     ensures no_more { length puts.new.items ≤ length puts.old.items }

@@ -9,6 +9,6 @@ use charts::Chart;
 pub struct PutLog {
     // none before the start
     pub(crate) chart: Option<Chart>,
-    pub(crate) puts: ArrayVec<LoggedPut, 128>,
+    pub(crate) puts: ArrayVec<LoggedPut, { PutLog::LENGTH }>,
     ghost unspent: { ∥ Open puts.items ∥₁ },
 }

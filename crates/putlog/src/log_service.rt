@@ -51,8 +51,9 @@ impl LinkService for PutLog {
     }
 
     fn take(&mut self, k: usize) -> Result<Entry, Fault> {
-        let n = self.waiting();
-        let (i, entry) = find(&self.puts, k).ok_or(Layer::Links.refuses(Refusal::Index(n)))?;
+        let (i, entry) = find(&self.puts, k).ok_or_else(|| Layer::Links.refuses(Refusal::Index(
+            self.waiting(),
+        )))?;
         strike(&mut self.puts, i, entry.to);
         Ok(entry)
     }

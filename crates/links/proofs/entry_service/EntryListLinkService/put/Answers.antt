@@ -1,15 +1,9 @@
 use Rattle.std.proofs.Common.{ℕ, ◌/◌, refl, ap, arith}
-use Rattle.std.proofs.lemmas.Result.{err_from_is_err_and}
 use Rattle.sets.proofs.Each.{each_few}
 use Rattle.links.specs.EntryLists.{fan_out}
 use Rattle.links.specs.Meanings.{entry_to, started_rows}
 use Rattle.links.proofs.Judged.{accepted, few_craft}
 use Rattle.links.proofs.entry_service.EntryListLinkService.put.Goals as goal
-
-pub returns-in_err-judge_put : goal.returns-in_err-judge_put
-returns-in_err-judge_put c =
-    let p = err_from_is_err_and c.from_residual.result c.from_residual.ensures.1 in
-    rw (p.1, p.2) (rw c.spare-spare.ensures at c.in_err-judge_put.ensures, refl)
 
 pub append-self-requires : goal.append-self-requires
 append-self-requires c =

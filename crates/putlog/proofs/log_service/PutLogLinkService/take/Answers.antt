@@ -1,4 +1,4 @@
-use Rattle.std.proofs.Common.{length, sym, refl, ◌∙◌, arith}
+use Rattle.std.proofs.Common.{◌≡◌, Some, length, sym, refl, ◌∙◌, arith, rules}
 use mathlib.Core.Logic.{∥∥₁_map}
 use Rattle.std.proofs.lemmas.Bool.{lt-leb, cond-false}
 use Rattle.putlog.specs.Puts.{all_entries, StandsAt}
@@ -14,7 +14,8 @@ returns c =
     let k = c.args.k in
     let i = c.in_ok-i.i in
     let entry = c.in_ok-i.entry in
-    let found = rw (c.in_ok-i.ensures.ok_part, c.deref.ensures.0) at c.find.ensures in
+    let is : c.find.result ≡ Some (i, entry) = search rules in
+    let found = rw (is, c.deref.ensures.0) at c.find.ensures in
     let there : StandsAt ps k i entry.to = found.0 in
     record {
       accepted = cond-false _ _ _ (lt-leb (length (all_entries ps)) k (stands_within ps k i entry.to there));
