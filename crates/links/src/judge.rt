@@ -1,4 +1,5 @@
 // What every link service judges alike.
+ghost use Rattle.std.specs.Prelude.{◌≡◌};
 ghost use Rattle.links.specs.Meanings.{started_rows};
 ghost use Rattle.links.specs.Calls.{PutJudged};
 
@@ -6,15 +7,24 @@ use charts::Chart;
 use refusals::{Fault, Layer, Refusal};
 use sets::{CraftSet, contains, is_within};
 
-// Whether a put to this set from this craft is refused, and by what. Before a start there is no chart, and no label is a craft's.
-pub fn judge_put(chart: Option<Chart>, spare: usize, from: u8, set: CraftSet) -> Result<(), Fault>
-    ensures { PutJudged (started_rows chart) spare from set result }
+// The rows of the chart that a service was started with, one for each craft; none before the start.
+pub fn rows_of(chart: &Option<Chart>) -> &[CraftSet]
+    ensures { result.now ≡ started_rows chart.now }
 {
-    let row = match chart {
-        Some(chart) if from < chart.n => chart.row(from),
-        _ => return Err(Layer::Links.refuses(Refusal::Label(from))),
+    match chart {
+        Some(chart) => &chart.rows[..usize::from(chart.n)],
+        None => &[],
+    }
+}
+
+// Whether a put to this set from this craft is refused, and by what.
+pub fn judge_put(rows: &[CraftSet], spare: usize, from: u8, set: CraftSet) -> Result<(), Fault>
+    ensures { PutJudged rows.now spare from set result }
+{
+    let Some(row) = rows.get(usize::from(from)) else {
+        return Err(Layer::Links.refuses(Refusal::Label(from)));
     };
-    if set == 0 || contains(set, from) || !is_within(set, row) {
+    if set == 0 || contains(set, from) || !is_within(set, *row) {
         return Err(Layer::Links.refuses(Refusal::NoLink(from)));
     }
     if spare == 0 {
