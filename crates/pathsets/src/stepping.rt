@@ -49,6 +49,7 @@ pub fn take_in(shelf: &mut Shelf, at: &Listener, from: u8, frame: &Frame) -> Out
 pub fn take_in_at(table: &mut Table, at: &Listener, from: u8, frame: &Frame) -> Outcome
     ensures { TakesAt table.old.at at.now from frame.now result table.new.at }
 {
+    // `get_mut` of an array promises nothing of what is written, so the shelf is reached by its index.
     if at.craft >= LABELS {
         return Outcome::Dropped;
     }

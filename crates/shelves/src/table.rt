@@ -44,7 +44,7 @@ impl Table {
     pub fn hold(&mut self, craft: u8, author: u8, note: &Note, set: CraftSet) -> bool
         ensures { HoldsAt self.old.at craft author note.now set result self.new.at }
     {
-        // `get_mut` of an array promises nothing of the other shelves.
+        // `get_mut` of an array promises nothing of what is written, so the shelf is reached by its index.
         if craft >= LABELS {
             return false;
         }
