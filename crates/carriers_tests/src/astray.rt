@@ -104,10 +104,7 @@ fn open_refused<L: LinkService + Drop>(
     links: L,
     needed: usize,
 ) -> Result<(), Fail> {
-    let refusal = match Direct::open(links, four()?) {
-        Ok(_) => None,
-        Err(fault) => Some(fault),
-    };
+    let refusal = Direct::open(links, four()?).err();
     assert_eq!(rt; refusal, Some(Layer::Links.refuses(Refusal::Short(needed))));
     Ok(())
 }

@@ -22,9 +22,7 @@ fn carry_both<A: Carrier, B: Carrier>(rt: &impl Abort, a: &mut A, b: &mut B) {
 
 // Every craft heard the note.
 fn all_heard<A: Carrier>(rt: &impl Abort, a: &A, author: u8, note: &Note) {
-    for listener in 0..4 {
-        assert!(rt; a.heard(listener, author, note));
-    }
+    assert!(rt; (0..4).all(|listener| a.heard(listener, author, note)));
     assert!(rt; !a.heard(4, author, note));
 }
 
