@@ -1,7 +1,7 @@
 -- What a line says of bytes is what they are read as. Assumes nothing.
 --   matter_read     what a word is read as has the text of the word
---   text_of_read    the text of bytes that are a frame is the text of that frame
 --   matter_unread   a word that is not read has the text `unknown`
+--   text_of_read    the text of bytes that are a frame is the text of that frame
 --   entry_of_read   the entry of what bytes are read as is the text of the bytes
 --   captured_as_read   the entry of what captured bytes are read as says what the line does
 use Rattle.std.proofs.Common.{◌≡◌, ℕ, List, [], ◌∷◌, get_or, drop, codes, Some, None, Ok, Err, Option, Result, sym, ap, ◌∙◌}
