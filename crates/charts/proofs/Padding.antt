@@ -1,11 +1,10 @@
 -- Empty rows after the rows of a chart change no link. Assumes nothing.
 --   getD_padded      each row is as it was, or empty
 --   length-padded    there is one for each label
---   written_padded   the rows written over the front of as many empty rows as there are labels
 --   take-padded      the first rows are those given
 --   linked-padded, padded-linked, sound-padded   the links are the same, and soundness is
-use Rattle.std.proofs.Common.{◌≡◌, ℕ, ◌-◌, ◌<◌, ◌≤◌, List, ◌++◌, length, get_or, take, drop, replicate, sym, refl, ap, ◌∙◌, subst, ⊎_elim, arith}
-use Rattle.std.proofs.lemmas.List.{get_or_append_left, get_or-append_right, get_or-replicate, get_or_past, length-append, length-replicate, take_at, drop-replicate}
+use Rattle.std.proofs.Common.{◌≡◌, ℕ, ◌-◌, ◌<◌, ◌≤◌, List, length, get_or, take, replicate, sym, refl, ◌∙◌, subst, ⊎_elim, arith}
+use Rattle.std.proofs.lemmas.List.{get_or_append_left, get_or-append_right, get_or-replicate, get_or_past, length-append, length-replicate, take_at}
 use Rattle.std.proofs.lemmas.Bool.{cases_lt}
 use Rattle.sets.specs.Sets.{In, labels}
 use Rattle.charts.specs.Rows.{Linked, Sound, padded}
@@ -27,11 +26,6 @@ getD_padded rows i = ⊎_elim
 pub length-padded : (rows : List ℕ) → length rows ≤ labels → length (padded rows) ≡ labels
 length-padded rows h =
     omega (arith, length-append rows (replicate (labels - length rows) 0), length-replicate {A = ℕ} (labels - length rows) 0)
-
-pub written_padded : (rows front : List ℕ) (k : ℕ) → front ≡ rows → k ≡ length rows → front ++ drop k (replicate labels 0) ≡ padded rows
-written_padded rows front k e h =
-    ap (λ (l : List ℕ). l ++ drop k (replicate labels 0)) e
-    ∙ ap (λ (l : List ℕ). rows ++ l) (drop-replicate k labels 0 ∙ ap (λ (x : ℕ). replicate (labels - x) 0) h)
 
 pub take-padded : (rows : List ℕ) (n : ℕ) → n ≡ length rows → take n (padded rows) ≡ rows
 take-padded rows n e = take_at rows (replicate (labels - length rows) 0) n (sym e)

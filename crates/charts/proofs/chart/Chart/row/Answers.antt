@@ -1,11 +1,8 @@
-use Rattle.std.proofs.Common.{sym, refl, arith}
+use Rattle.std.proofs.Common.{sym, arith}
 use Rattle.charts.proofs.RowLaws.{past_empty}
 use Rattle.charts.proofs.chart.Chart.row.Goals as goal
 
-pub returns-else-craft-self : goal.returns-else-craft-self
-returns-else-craft-self c =
+pub returns-else-craft-self-clause-answer : goal.returns-else-craft-self-clause-answer
+returns-else-craft-self-clause-answer c =
     let self = c.args.self.now in
-    record {
-      answer = sym (past_empty self.n self.rows self.bounded self.«mutual» c.args.craft (omega arith));
-      past = λ _. refl;
-    }
+    sym (past_empty self.n self.rows self.bounded self.«mutual» c.args.craft (omega arith))
