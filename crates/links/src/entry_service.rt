@@ -19,6 +19,7 @@ fn append(list: &mut [Entry], at: usize, from: u8, set: CraftSet, frame: Frame) 
     ensures len { result ≡ at + length (sent from set frame) }
     ensures items { take result list.new ≡ take at list.old ++ sent from set frame }
 {
+    // by index: of a list written through `iter_mut` in a `zip`, a proof knows the length alone
     for (i, to) in members_of(set).enumerate() {
         list[at + i] = Entry { from, to, frame };
     }
