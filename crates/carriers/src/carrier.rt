@@ -16,6 +16,7 @@ use sets::CraftSet;
 
 // Carries notes from craft to craft, and keeps who heard which note of whom. Its meaning (craft, chart, what was heard, what waits,
 // who is astray, spare and toil), `sound`, which opening gives and every call keeps, and the two laws are those of LawfulCarrier.
+// `sound` is a premise and no invariant of a type: a law speaks of every value, and a call changes links and shelves one after the other.
 pub trait Carrier: LawfulCarrier {
     // the most that one say adds to the toil
     const G: u64;

@@ -100,6 +100,7 @@ impl<L: LinkService> Carrier for Direct<L> {
         self.store.meddle(&mut self.astray, &chart, f, c, to, frame)
     }
 
+    // From here on a line each, as in every carrier: the fields are each type's own.
     fn craft(&self) -> u8 {
         self.complete.chart.n
     }

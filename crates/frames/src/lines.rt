@@ -10,6 +10,7 @@ use refusals::{Fault, Layer, Refusal};
 use sets::LABELS;
 
 // The lowercase hexadecimal digit of a number below 16, in ASCII.
+// By arithmetic: `char::from_digit` answers an Option of a char, which is no plainer for a byte.
 fn hex_digit(n: u8) -> u8
     requires { n < 16 }
     ensures { result ≡ hex n }

@@ -21,6 +21,7 @@ pub(crate) fn entries(puts: &[LoggedPut]) -> usize
 pub(crate) fn find(puts: &[LoggedPut], k: usize) -> Option<(usize, Entry)>
     ensures { Found puts.now k result }
 {
+    // a count that falls: no method of the library finds an index in lists one after another
     let mut left = k;
     for (i, put) in puts.iter().enumerate() {
         if let Some(to) = members_of(put.to).nth(left) {

@@ -111,6 +111,7 @@ impl<L: LinkService> Carrier for Relay<L> {
         self.base.meddle(&chart, f, c, to, frame)
     }
 
+    // From here on a line each, as in every carrier: the fields are each type's own.
     fn craft(&self) -> u8 {
         self.passed.chart.n
     }

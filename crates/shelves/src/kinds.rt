@@ -9,7 +9,8 @@ use frames::Note;
 use sets::CraftSet;
 
 // A set of craft that is held for an author and a note. The empty set is held for what was heard.
-// Author and note are no struct of their own: with its padding a row would grow from 24 to 32 bytes, and memory is fixed.
+// Author and note are no struct of their own, here and where they are passed together: with its padding a row would grow from 24 to 32 bytes,
+// and memory is fixed; frames, rows and what is heard have the two beside a third field, so a struct would be made for each call.
 #[derive(Clone, Copy, Default)]
 pub struct Row {
     pub note: Note,

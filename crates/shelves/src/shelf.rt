@@ -67,6 +67,7 @@ impl Shelf {
     }
 
     // Holds a set for the author and the note, in place of the sets held for them that contain it. Answers whether there was room; where there was none, nothing changes.
+    // A bool and no Result: want of room is the only cause, so an error would have nothing to tell.
     pub fn hold(&mut self, author: u8, note: &Note, set: CraftSet) -> bool
         ensures rows { Held (rows_of self.old) author note.now set result (rows_of self.new) }
         ensures more { length (rows_of self.new) ≤ length (rows_of self.old) + 1 }
