@@ -5,7 +5,7 @@ ghost use Rattle.links.specs.EntryLists.{list_length, means, list_laws};
 
 use crate::entries::Entry;
 use crate::entry_list::EntryList;
-use crate::judge::{judge_put, rows_of};
+use crate::judge::{judge_put, started_rows};
 use crate::removal::remove_at;
 use crate::service::LinkService;
 use charts::Chart;
@@ -63,7 +63,7 @@ impl LinkService for EntryList<'_> {
 
     fn put(&mut self, from: u8, set: CraftSet, frame: Frame) -> Result<(), Fault> {
         let spare = self.spare();
-        judge_put(rows_of(&self.chart), spare, from, set)?;
+        judge_put(started_rows(&self.chart), spare, from, set)?;
         self.len = append(self.list, self.len, from, set, frame);
         Ok(())
     }

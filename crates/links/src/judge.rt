@@ -8,7 +8,7 @@ use refusals::{Fault, Layer, Refusal};
 use sets::{CraftSet, contains, is_within};
 
 // The rows of the chart that a service was started with, one for each craft; none before the start.
-pub fn rows_of(chart: &Option<Chart>) -> &[CraftSet]
+pub fn started_rows(chart: &Option<Chart>) -> &[CraftSet]
     ensures { result.now ≡ started_rows chart.now }
 {
     match chart {

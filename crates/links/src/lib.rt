@@ -12,6 +12,6 @@ pub mod service;
 pub use entries::Entry;
 pub use entry_list::EntryList;
 pub use forwarding::forward;
-pub use judge::{judge_put, rows_of};
+pub use judge::{judge_put, started_rows};
 pub use removal::remove_at;
 pub use service::LinkService;

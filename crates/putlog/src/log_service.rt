@@ -8,7 +8,7 @@ use crate::puts::LoggedPut;
 use arrayvec::ArrayVec;
 use charts::Chart;
 use frames::Frame;
-use links::{Entry, LinkService, judge_put, rows_of};
+use links::{Entry, LinkService, judge_put, started_rows};
 use refusals::{Fault, Layer, Refusal};
 use sets::CraftSet;
 
@@ -41,7 +41,7 @@ impl LinkService for PutLog {
 
     fn put(&mut self, from: u8, set: CraftSet, frame: Frame) -> Result<(), Fault> {
         let spare = self.spare();
-        judge_put(rows_of(&self.chart), spare, from, set)?;
+        judge_put(started_rows(&self.chart), spare, from, set)?;
         self.puts.push(LoggedPut {
             frame,
             from,
