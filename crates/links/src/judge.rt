@@ -1,21 +1,8 @@
 // What every link service judges alike.
-ghost use Rattle.std.specs.Prelude.{◌≡◌};
-ghost use Rattle.links.specs.Meanings.{started_rows};
 ghost use Rattle.links.specs.Calls.{PutJudged};
 
-use charts::Chart;
 use refusals::{Fault, Layer, Refusal};
 use sets::{CraftSet, contains, is_within};
-
-// The rows of the chart that a service was started with, one for each craft; none before the start.
-pub fn started_rows(chart: &Option<Chart>) -> &[CraftSet]
-    ensures { result.now ≡ started_rows chart.now }
-{
-    match chart {
-        Some(chart) => &chart.rows[..usize::from(chart.n)],
-        None => &[],
-    }
-}
 
 // Whether a put to this set from this craft is refused, and by what.
 pub fn judge_put(rows: &[CraftSet], spare: usize, from: u8, set: CraftSet) -> Result<(), Fault>

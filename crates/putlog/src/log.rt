@@ -3,12 +3,11 @@ ghost use Rattle.putlog.specs.Puts.{Open};
 
 use crate::puts::LoggedPut;
 use arrayvec::ArrayVec;
-use charts::Chart;
+use links::Rows;
 
 #[derive(Drop)]
 pub struct PutLog {
-    // none before the start
-    pub(crate) chart: Option<Chart>,
+    pub(crate) rows: Rows,
     pub(crate) puts: ArrayVec<LoggedPut, { PutLog::LENGTH }>,
     ghost unspent: { ∥ Open puts.items ∥₁ },
 }

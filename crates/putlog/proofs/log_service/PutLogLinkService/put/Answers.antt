@@ -3,7 +3,7 @@ use mathlib.Core.Logic.{∥∥₁_map}
 use Rattle.std.proofs.ByRecursion.{All-push}
 use Rattle.std.proofs.lemmas.Bool.{eqb-false}
 use Rattle.sets.proofs.Removed.{each_some}
-use Rattle.links.specs.Meanings.{entry_to, started_rows}
+use Rattle.links.specs.Meanings.{entry_to}
 use Rattle.links.proofs.Judged.{accepted}
 use Rattle.putlog.specs.declared.puts.LoggedPut.{LoggedPut}
 use Rattle.putlog.specs.Puts.{entries_of, Open}
@@ -11,7 +11,7 @@ use Rattle.putlog.proofs.log_service.PutLogLinkService.put.Goals as goal
 
 pub invariant_of-self : goal.invariant_of-self
 invariant_of-self c =
-    let a = accepted (started_rows c.args.self.now.chart) c.spare-spare.result c.args.from c.args.set (rw c.started_rows.ensures at c.in_ok-judge_put.ensures) in
+    let a = accepted c.as_slice.result.now c.spare-spare.result c.args.from c.args.set c.in_ok-judge_put.ensures in
     let p : LoggedPut = record { frame = c.args.frame; from = c.args.from; to = c.args.set } in
     let some : 0 < length (entries_of p) = each_some (entry_to c.args.from c.args.frame) c.args.set 8 (omega arith) (eqb-false c.args.set 0 a.0.some) in
     record {
