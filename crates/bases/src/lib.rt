@@ -1,4 +1,4 @@
-// What carriers over a link service have in common: their parts, and what say and meddle do to them.
+// What the relay is made of, beside its chart: a store and the craft astray.
 #![tactic(auto)]
 
 pub mod base;

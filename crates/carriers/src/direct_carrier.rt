@@ -64,6 +64,7 @@ impl<L: LinkService> Carrier for Direct<L> {
     ghost meddles = { MeddlesDirect L.LinkService.meaning };
 
     fn say(&mut self, author: u8, note: Note) -> Result<(), Fault> {
+        // a copy: a part with ghost fields that is lent comes back as another proof of its facts
         let chart = self.complete.chart;
         self.store.say(&chart, author, note)
     }

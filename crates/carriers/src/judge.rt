@@ -36,7 +36,7 @@ pub fn judge_carry(waiting: usize, spare: usize, k: usize) -> Result<(), Fault>
 
 // Whether c may meddle, where there are n craft, at most f of them may go astray and these have, and `row` are the neighbours of c;
 // 1 of c, 1 of the craft that it meddles to, 9, 10, 8. Craft c itself does not count among those astray.
-// Plain values and no struct of them: each carrier has them in other places, and would make the struct for this call alone.
+// Plain values and no chart: a carrier with its rows elsewhere can ask as well, as it could before, and a chart would ask more of it.
 pub fn judge_meddle(
     n: u8,
     f: u8,

@@ -10,6 +10,7 @@ use std::test::Fail;
 // Says a note in both, and refuses it alike of a craft that is none.
 fn say_both<A: Carrier, B: Carrier>(rt: &impl Abort, a: &mut A, b: &mut B, author: u8, note: Note) {
     assert_eq!(rt; a.say(author, note), b.say(author, note));
+    assert_eq!(rt; a.say(4, note), b.say(4, note));
     assert!(rt; a.say(4, note).is_err());
     assert_eq!(rt; a.waiting(), b.waiting());
 }

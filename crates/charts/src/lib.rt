@@ -9,3 +9,4 @@ mod rows;
 
 pub use chart::Chart;
 pub use examples::worked_sizes;
+pub use opening::is_enough;

@@ -1,5 +1,5 @@
 // Charts made from rows.
-ghost use Rattle.std.specs.Prelude.{◌≡◌, ◌≤◌, length};
+ghost use Rattle.std.specs.Prelude.{◌≡◌, ◌*◌, ◌≤◌, length, nat_lt};
 ghost use Rattle.sets.specs.Sets.{labels};
 ghost use Rattle.charts.specs.Causes.{sized};
 ghost use Rattle.charts.specs.Charts.{Made};
@@ -10,11 +10,18 @@ use crate::rows::wrong_row;
 use refusals::{Fault, Layer, Refusal};
 use sets::{CraftSet, LABELS};
 
+// Whether so many craft are more than three times f.
+pub fn is_enough(count: usize, f: u8) -> bool
+    ensures { result ≡ nat_lt (3 * f) count }
+{
+    3 * usize::from(f) < count
+}
+
 // Whether so many craft are from 2 to the number of labels, and more than three times f.
 fn is_sized(count: usize, f: u8) -> bool
     ensures { result ≡ sized count f }
 {
-    2 <= count && (count <= usize::from(LABELS) && 3 * usize::from(f) < count)
+    2 <= count && (count <= usize::from(LABELS) && is_enough(count, f))
 }
 
 // The rows, with empty rows after them.

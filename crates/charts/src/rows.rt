@@ -6,7 +6,7 @@ ghost use Rattle.charts.specs.Causes.{RowsTested};
 
 use sets::{CraftSet, all_below, contains, is_within};
 
-// Whether every craft that row i names, names i.
+// Whether every craft that row i names, names i. By labels, here and below: each link is looked up from both of its ends.
 fn is_answered(rows: &[CraftSet], i: u8) -> bool
     requires few { length rows.now ≤ labels }
     requires there { i < length rows.now }

@@ -9,7 +9,6 @@ pub mod passed;
 pub mod reach;
 pub mod relay;
 mod search;
-mod size;
 pub mod walks;
 
 pub use complete::CompleteChart;

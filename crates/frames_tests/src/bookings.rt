@@ -1,10 +1,7 @@
 // Bookings and their lines.
-use frames::{Booking, Fault, Layer, Refusal};
+use crate::faults::refused;
+use frames::{Booking, Refusal};
 use std::test::Fail;
-
-fn refused<T>(refusal: Refusal) -> Result<T, Fault> {
-    Err(Layer::Frames.refuses(refusal))
-}
 
 #[test]
 fn labels_and_numbers(rt: HostRuntime) {

@@ -4,6 +4,8 @@
 #[cfg(test)]
 mod bookings;
 #[cfg(test)]
+mod faults;
+#[cfg(test)]
 mod matters;
 #[cfg(test)]
 mod reading;

@@ -1,9 +1,10 @@
 // Matter and its words: each field at both ends of its range and just outside.
-use frames::{AnyMatter, Fault, KeepOut, Layer, Matter, Observation, Refusal};
+use crate::faults::refused;
+use frames::{AnyMatter, Fault, KeepOut, Matter, Observation, Refusal};
 
 // The refusal of a field that begins at a byte.
 fn range<T>(byte: u8) -> Result<T, Fault> {
-    Err(Layer::Frames.refuses(Refusal::Range(byte)))
+    refused(Refusal::Range(byte))
 }
 
 #[test]

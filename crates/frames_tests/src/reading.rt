@@ -1,5 +1,6 @@
 // The frame reader, at the edges of what it judges.
-use frames::{FRAME_VERSION, Fault, Frame, Head, Layer, Note, Received, Refusal, Step, read_frame};
+use crate::faults::refused;
+use frames::{FRAME_VERSION, Frame, Head, Note, Received, Refusal, Step, read_frame};
 
 const SEND: [u8; 15] = [
     15, 1, 1, 0, 0, 0, 0, 0x01, 0x01, 0x2C, 0x00, 0x0E, 0x10, 0x0C, 0x01,
@@ -12,10 +13,6 @@ const HEAD: Head = Head {
     number: 0,
     set: 0,
 };
-
-fn refused<T>(refusal: Refusal) -> Result<T, Fault> {
-    Err(Layer::Frames.refuses(refusal))
-}
 
 // The frame's bytes with one of them changed.
 fn changed(at: usize, byte: u8) -> [u8; 15] {

@@ -1,8 +1,9 @@
 // The frame writer: where it writes, what it leaves, and when it refuses.
-use frames::{Fault, Frame, Layer, Note, Refusal, Step};
+use crate::faults::refused;
+use frames::{Fault, Frame, Note, Refusal, Step};
 
 fn short(needed: usize) -> Result<(), Fault> {
-    Err(Layer::Frames.refuses(Refusal::Short(needed)))
+    refused(Refusal::Short(needed))
 }
 
 fn echo() -> Frame {

@@ -30,6 +30,7 @@ fn is_hittable_with(rows: &[Row], author: u8, note: &Note, chosen: CraftSet, all
     if allowed == 0 {
         return false;
     }
+    // a `for` and no `any`: of a closure in a cycle of calls nothing is inferred
     for craft in members_of(unmet) {
         if is_hittable_with(rows, author, note, with(chosen, craft), allowed - 1) {
             return true;

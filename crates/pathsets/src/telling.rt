@@ -10,6 +10,7 @@ use sets::{CraftSet, count, minus, without};
 use shelves::Row;
 
 // The craft that make up a set held for the author and the note by themselves: they are known to have heard it.
+// Its chain begins as that of `first_unmet`: a function that answers an iterator without a name gets no proof yet.
 fn alone(rows: &[Row], author: u8, note: &Note) -> CraftSet
     ensures { result ≡ singles (sets_of author note.now rows.now) }
 {

@@ -1,4 +1,5 @@
 -- Where entries stand among the puts. Assumes nothing.
+--   IsMemberAt         a craft of the set that has k lower ones in it
 --   member_at          the member of a set that has k lower ones stands at place k
 --   entries_more       how many entries one put more stands for
 --   entries_counted    how many entries puts stand for is the sum of the counts of their craft

@@ -26,9 +26,8 @@ fn pass_on<L: LinkService>(links: &mut L, entry: &Entry, out: &Outcome) -> Resul
         return Ok(());
     }
     let frame = Frame {
-        note: entry.frame.note,
-        author: entry.frame.author,
         set: out.set(),
+        ..entry.frame
     };
     links.put(entry.to, to, frame)
 }
@@ -78,6 +77,7 @@ impl<L: LinkService> Carrier for Relay<L> {
     ghost meddles = { MeddlesRelay L.LinkService.meaning };
 
     fn say(&mut self, author: u8, note: Note) -> Result<(), Fault> {
+        // a copy: a part with ghost fields that is lent comes back as another proof of its facts
         let chart = self.passed.chart;
         self.base.say(&chart, author, note)
     }

@@ -37,24 +37,22 @@ fn say_all<A: Carrier>(a: &mut A) -> Result<(), Fail> {
     Ok(())
 }
 
-// Carries in both the same frame, now the first that waits and now the last, until nothing waits. Answers how often.
-fn carry_all<A: Carrier + Shown, B: Carrier + Shown>(
+// Carries in both the same frame, picked by the turn and by how many wait, until nothing waits. Answers how often.
+fn carry_all<A: Carrier + Shown, B: Carrier + Shown, F: Fn(usize, usize) -> usize>(
     rt: &impl Abort,
     a: &mut A,
     b: &mut B,
-    last: bool,
-) -> Result<usize, Fail> {
+    pick: &F,
+) -> Result<usize, Fail>
+    requires { F.IsAlwaysCallable pick.now }
+{
     for carried in 0..2000 {
         same_list(rt, a, b);
         let waiting = a.waiting();
         if waiting == 0 {
             return Ok(carried);
         }
-        let k = if last && carried % 2 == 1 {
-            waiting - 1
-        } else {
-            0
-        };
+        let k = pick(carried, waiting);
         assert_eq!(rt; a.carry(k), b.carry(k));
     }
     Ok(2000)
@@ -72,31 +70,35 @@ fn all_heard<A: Carrier>(rt: &impl Abort, a: &A) {
     }
 }
 
-fn compare<A: Carrier + Shown, B: Carrier + Shown>(
+fn compare<A: Carrier + Shown, B: Carrier + Shown, F: Fn(usize, usize) -> usize>(
     rt: &impl Abort,
     a: &mut A,
     b: &mut B,
-    last: bool,
-) -> Result<usize, Fail> {
+    pick: &F,
+) -> Result<usize, Fail>
+    requires { F.IsAlwaysCallable pick.now }
+{
     say_all(a)?;
     say_all(b)?;
-    let carried = carry_all(rt, a, b, last)?;
+    let carried = carry_all(rt, a, b, pick)?;
     assert_eq!(rt; a.waiting(), 0);
     all_heard(rt, a);
     all_heard(rt, b);
     Ok(carried)
 }
 
-fn run<L: LinkService + Drop, M: LinkService + Drop>(
+fn run<L: LinkService + Drop, M: LinkService + Drop, F: Fn(usize, usize) -> usize>(
     rt: &impl Abort,
     links: L,
     log: M,
     chart: PassedChart,
-    last: bool,
-) -> Result<usize, Fail> {
+    pick: &F,
+) -> Result<usize, Fail>
+    requires { F.IsAlwaysCallable pick.now }
+{
     let mut a = Relay::open(links, chart)?;
     let mut b = Relay::open(log, chart)?;
-    compare(rt, &mut a, &mut b, last)
+    compare(rt, &mut a, &mut b, pick)
 }
 
 // How many carries that takes was worked out by a model of the relay in another language, which shares no code with this.
@@ -108,7 +110,7 @@ fn four_linked_craft_come_to_rest(rt: HostRuntime) -> Result<(), Fail> {
         EntryList::new(&mut list),
         PutLog::new(),
         four()?,
-        false,
+        &|_, _| 0,
     )?;
     assert_eq!(rt; carried, 81);
     Ok(())
@@ -122,10 +124,23 @@ fn five_craft_with_a_link_missing_come_to_rest(rt: HostRuntime) -> Result<(), Fa
         EntryList::new(&mut list),
         PutLog::new(),
         five()?,
-        false,
+        &|_, _| 0,
     )?;
     assert_eq!(rt; first, 159);
-    let mixed = run(&rt, EntryList::new(&mut list), PutLog::new(), five()?, true)?;
+    // now the first that waits and now the last
+    let mixed = run(
+        &rt,
+        EntryList::new(&mut list),
+        PutLog::new(),
+        five()?,
+        &|turn, waiting: usize| {
+            if turn % 2 == 1 {
+                waiting.saturating_sub(1)
+            } else {
+                0
+            }
+        },
+    )?;
     assert_eq!(rt; mixed, 159);
     Ok(())
 }

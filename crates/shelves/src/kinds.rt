@@ -11,7 +11,7 @@ use sets::CraftSet;
 // A set of craft that is held for an author and a note. The empty set is held for what was heard.
 // Author and note are no struct of their own, here and where they are passed together: with its padding a row would grow from 24 to 32 bytes,
 // and memory is fixed; frames, rows and what is heard have the two beside a third field, so a struct would be made for each call.
-#[derive(Clone, Copy, Default)]
+#[derive(Clone, Copy, PartialEq, Eq, Debug, Default)]
 pub struct Row {
     pub note: Note,
     pub author: u8,
@@ -25,7 +25,7 @@ pub struct Shelf {
     ghost few: { array_vec_len rows ≤ shelf_length },
 }
 
-// A shelf for each label. A row is lent and changed inside a method, never handed out.
+// A shelf for each label. A shelf is lent to what changes it; its rows are never handed out to be written.
 #[derive(Drop)]
 pub struct Table {
     pub at: [Shelf; 8],
