@@ -12,11 +12,7 @@ impl Chart {
         ensures answer { result ≡ slice_index self.now.rows craft }
         ensures past { self.now.n ≤ craft → result ≡ 0 }
     {
-        if craft < self.n {
-            self.rows[craft as usize]
-        } else {
-            0
-        }
+        self.rows.get(usize::from(craft)).copied().unwrap_or(0)
     }
 
     // Whether two craft are linked, whichever is asked first; no craft is linked with a label that no craft has.

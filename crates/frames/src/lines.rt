@@ -29,7 +29,7 @@ impl Booking {
     // A line's length in bytes.
     pub const LINE_LENGTH: usize = 28;
 
-    // The booking of these labels, number and word. A label that no craft has is refused by 1, the craft's before the origin's, and a number above 3 by 5.
+    // The booking of these labels, number and word; an `if` for each cause, since each tells another value. A label that no craft has is refused by 1, the craft's before the origin's, and a number above 3 by 5.
     pub fn new(craft: u8, origin: u8, number: u8, word: u64) -> Result<Booking, Fault>
         ensures { Booked craft origin number word result }
     {
@@ -50,7 +50,7 @@ impl Booking {
         })
     }
 
-    // The line's 28 bytes.
+    // The line's 28 bytes. No Display: a craft has no heap, and writes them into a buffer that is lent.
     pub fn line(&self) -> [u8; 28]
         ensures { result ≡ line_bytes self.now }
     {

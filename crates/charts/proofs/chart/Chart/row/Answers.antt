@@ -1,8 +1,9 @@
-use Rattle.std.proofs.Common.{sym, arith}
+use Rattle.std.proofs.Common.{◌≡◌, get_or, ◌∙◌, rules}
 use Rattle.charts.proofs.RowLaws.{past_empty}
 use Rattle.charts.proofs.chart.Chart.row.Goals as goal
 
-pub returns-else-craft-self-clause-answer : goal.returns-else-craft-self-clause-answer
-returns-else-craft-self-clause-answer c =
+pub returns-clause-past : goal.returns-clause-past
+returns-clause-past c h =
     let self = c.args.self.now in
-    sym (past_empty self.n self.rows self.bounded self.«mutual» c.args.craft (omega arith))
+    let answer : c.unwrap_or.result ≡ get_or self.rows c.args.craft 0 = search rules in
+    answer ∙ past_empty self.n self.rows self.bounded self.«mutual» c.args.craft h
