@@ -8,6 +8,7 @@ use refusals::{Fault, Layer, Refusal};
 use std::process::Abort;
 use std::test::Fail;
 
+// The same few lines as in other crates of tests: sharing them would take a crate for them alone.
 fn refused(refusal: Refusal) -> Option<Fault> {
     Some(Layer::Carriers.refuses(refusal))
 }

@@ -1,4 +1,4 @@
-// Whether rows name rightly.
+// Whether rows name rightly. They are a caller's and no chart yet, so that they are few is asked at each function.
 ghost use Rattle.std.specs.Prelude.{◌≡◌, ◌<◌, ◌≤◌, length};
 ghost use Rattle.sets.specs.Sets.{labels};
 ghost use Rattle.charts.specs.Rows.{answered, right};

@@ -26,7 +26,7 @@ fn is_cut(chart: &Chart, candidates: CraftSet, most: u8, u: u8, v: u8, set: Craf
     is_within(set, candidates) && (count(set) <= u32::from(most) && parted(chart, set, u, v))
 }
 
-// The lowest set of at most `most` candidates that parts u and v.
+// The lowest set of at most `most` candidates that parts u and v. Plain values here and in `is_cut`: a struct would be made for one call.
 fn lowest_cut(chart: &Chart, candidates: CraftSet, most: u8, u: u8, v: u8) -> Option<CraftSet>
     ensures { CutTested (parted chart.now.n chart.now.rows u v) candidates most u v chart.now.n result }
 {

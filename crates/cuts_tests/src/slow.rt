@@ -42,6 +42,7 @@ fn closed(matrix: u64, set: u8) -> u64 {
 }
 
 // The lowest set below `sets`, of at most `most` craft other than u and v, that leaves no way from u to v.
+// Plain numbers and no struct, here and below: `sets` is 1 << n, which is known to fit only where n was tested.
 fn slow_set(matrix: u64, sets: u8, most: u8, u: u8, v: u8) -> Option<u8> {
     (0..sets)
         .filter(|set| !is_member(*set, u) && !is_member(*set, v))

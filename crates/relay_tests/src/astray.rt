@@ -9,6 +9,7 @@ use relay::Relay;
 use std::process::Abort;
 use std::test::Fail;
 
+// The same few lines as in other crates of tests: sharing them would take a crate for them alone.
 fn refused(refusal: Refusal) -> Option<Fault> {
     Some(Layer::Carriers.refuses(refusal))
 }

@@ -40,6 +40,7 @@ pub(crate) fn send(set: CraftSet) -> Frame {
 }
 
 // The entries that an entry list works in.
+// The same few lines as in other crates of tests: sharing them would take a crate for them alone.
 pub(crate) fn room() -> [Entry; 1008] {
     let blank = Entry {
         frame: send(0),
