@@ -22,7 +22,7 @@ pub struct Head {
 }
 
 // A frame as it was received: the step is the case, and the content is that part of the received bytes.
-// A rule of the project: the reader answers Send, Echo or Ready, each with its content as that part of the received bytes.
+// A rule of the project, and so no struct with a step: a case for each step, and the content lent from what was received.
 #[derive(Clone, Copy, PartialEq, Eq, Debug)]
 pub enum Received<'a> {
     Send(Head, &'a [u8]),
