@@ -4,6 +4,7 @@
 --   Kept     the invariant:
 --     few_astray, astray_labels   at most f craft are astray, and they are craft
 --     linked            what waits goes over a link
+--     fitting           what a loyal craft sends is not dropped at once where it arrives: no frame is put in vain
 --     proper            what is held has no own craft, no author, and only craft; an author holds only the empty set for its own note
 --     antichain         no held set lies within another
 --     settled           the empty set is held, or some f craft hit all that is held
@@ -20,7 +21,7 @@ use Rattle.frames.specs.Notes.{sound}
 use Rattle.links.specs.Meanings.{entry_to}
 use Rattle.pathsets.specs.Families.{covering, holds, Antichain}
 use Rattle.pathsets.specs.Hitting.{hittable}
-use Rattle.pathsets.specs.Steps.{path}
+use Rattle.pathsets.specs.Steps.{Fits, path}
 use Rattle.relaying.specs.States.{Setting, State, row, held, heard, Loyal, frame_of}
 
 pub record Proper (n p a : ℕ) (x : Note) (v : ℕ) : Type 0 where
@@ -39,6 +40,7 @@ pub record Kept (g : Setting) (s : State) : Type 0 where
   pub few_astray : count s.astray ≤ g.f
   pub astray_labels : s.astray < 2 ^ g.n
   pub linked : AllByRecursion (λ e. In e.to (row g.chart e.from)) s.waiting
+  pub fitting : AllByRecursion (λ e. Loyal s e.from → Fits g.n e.to e.from e.frame) s.waiting
   pub proper : (p a : ℕ) (x : Note) → AllByRecursion (Proper g.n p a x) (held s p a x)
   pub antichain : (p a : ℕ) (x : Note) → Antichain (held s p a x)
   pub settled : (p a : ℕ) (x : Note) → (heard s p a x ≡ true) ⊎ (hittable g.f (held s p a x) ≡ true)
