@@ -7,6 +7,7 @@
 --   carry_accepted    where something waits, a carry is accepted
 use Rattle.std.proofs.Common.{◌≡◌, ℕ, ◌<◌, ◌≤◌, Bool, true, false, cond, not, eqb, ltb, leb, List, length, refl, ap, arith}
 use Rattle.std.proofs.lemmas.Bool.{lt-leb, le-ltb, lt-ltb, le-leb, and_from, or_left}
+use Rattle.refusals.proofs.FirstCause.{accepts}
 use Rattle.matter.specs.Layouts.{Kind}
 use Rattle.frames.specs.declared.notes.Step.{Step}
 use Rattle.frames.specs.declared.notes.Step.TheVariants.{Echo, Ready}
@@ -16,7 +17,6 @@ use Rattle.agreement.specs.Votes.{blank, hear}
 use Rattle.agreement.specs.Flights.{State, Ledger, carry, Accepted, Voted, here, turn, telling, causes}
 use Rattle.agreement.specs.Runs.{Opening}
 use Rattle.agreement.specs.Lives.{state}
-use Rattle.agreement.proofs.Causes.{accepts}
 use Rattle.agreement.proofs.IdealCarrier.{Net, mean, say_all_lem, idle_net, idle_fresh}
 
 abbrev pub empty : Ledger

@@ -2,7 +2,8 @@
 --   kept_opening   it holds at the opening
 --   kept_run       it holds after every run
 --   lawful_run     the carrier is lawful after every run
-use Rattle.std.proofs.Common.{◌≡◌, ℕ, ◌<◌, true, List, [], Some, None, sym, ap, ◌∙◌, subst, arith}
+use Rattle.std.proofs.Common.{◌≡◌, ℕ, ◌<◌, true, List, [], None, sym, ap, ◌∙◌, subst, arith}
+use Rattle.std.proofs.lemmas.Option.{none-some}
 use Rattle.std.proofs.lemmas.Bool.{both_ways, true≢false}
 use Rattle.sets.specs.Sets.{count, bit}
 use Rattle.sets.proofs.Counts.{count-zero}
@@ -20,9 +21,6 @@ use Rattle.agreement.proofs.HeardVotes.{Matches}
 use Rattle.agreement.proofs.Entries.{Entry}
 use Rattle.agreement.proofs.KeptRuns.{Kept, kept_step}
 
-none≢some : {v : ℕ} → None ≡ Some v → ⊥
-none≢some {v} e = let z : ◌≡◌ {A = ℕ} 0 1 = cc in omega arith
-
 no_backers : (n v : ℕ) → 0 < backers n (λ a. None) v → ⊥
 unfolding backers
 no_backers n v h = true≢false (sym (one_passes_outside n 0 0 (λ a. is None v) h (omega (arith, count-zero))).2)
@@ -33,7 +31,7 @@ module _ (m : Meaning) (fresh : Fresh m) where
 
   blank_matches : (x : Step) (p o k : ℕ) → Matches m x p o k (λ a. None)
   blank_matches x p o k = record {
-    heard = λ a v e. absurd (none≢some e);
+    heard = λ a v e. absurd (none-some _ e);
     kept = λ a v e. unheard p a x o k v e;
     own = λ v e. unheard p p x o k v e;
   }
@@ -45,7 +43,7 @@ module _ (m : Meaning) (fresh : Fresh m) where
       by_readies = λ v h. absurd (no_backers n v (omega (arith, h)));
       by_enough = λ v h. absurd (no_backers n v (omega (arith, h)));
     };
-    counted = λ v e. absurd (none≢some e);
+    counted = λ v e. absurd (none-some _ e);
     echo = blank_matches Echo p o k;
     ready = blank_matches Ready p o k;
     cause = λ v e. unheard p p Echo o k v e;
@@ -64,7 +62,7 @@ kept_opening s h =
       };
       deliveries = record {
         told = λ p o k w x. absurd x;
-        tells = λ p o k w e. absurd (none≢some (sym (ap (λ (t : Tally). t.delivered) (h.empty.votes p o k)) ∙ e));
+        tells = λ p o k w e. absurd (none-some _ (sym (ap (λ (t : Tally). t.delivered) (h.empty.votes p o k)) ∙ e));
         books = λ p o k w x. absurd x;
       };
       sends = record {

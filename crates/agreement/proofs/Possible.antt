@@ -7,6 +7,7 @@
 use Rattle.std.proofs.Common.{◌≡◌, ℕ, zero, suc, ◌+◌, ◌<◌, ◌≤◌, Bool, true, false, not, ◌&&◌, ◌||◌, eqb, ltb, leb, List, [], ◌∷◌, length, None, refl, inl, inr, ⊎_elim, arith}
 use Rattle.std.proofs.lemmas.Bool.{cases_lt, lt-leb, le-ltb, lt-ltb, le-leb, and_parts, and_from, or_right, eq-eqb, ltb-true, leb-true}
 use Rattle.refusals.specs.Refusals.{cause}
+use Rattle.refusals.proofs.FirstCause.{accepts, clear-append}
 use Rattle.matter.specs.Layouts.{Kind, word_refusal}
 use Rattle.frames.specs.declared.notes.Step.TheVariants.{Send}
 use Rattle.frames.specs.Notes.{is_send, sound, note}
@@ -14,7 +15,7 @@ use Rattle.agreement.specs.Flights.{State, Ledger, Event, ordered, moved, heard,
 use Rattle.agreement.specs.Runs.{Run, still, then, Ordered, Astray, Misleads, Carry, accepted}
 use Rattle.agreement.specs.Lives.{state}
 use Rattle.agreement.specs.Possible.{Arrives, Possible}
-use Rattle.agreement.proofs.Causes.{accepts, clear-append, word_clear}
+use Rattle.agreement.proofs.Causes.{word_clear}
 use Rattle.agreement.proofs.RestComes.{carry_falls}
 use Rattle.agreement.proofs.Agrees.{agreement}
 use Rattle.agreement.proofs.IdealFlight.{empty, opening, voted, vote, carry_accepted}

@@ -5,19 +5,20 @@
 --   all_or_halt    of such carries all are accepted, or the flight has halted
 use Rattle.std.proofs.Common.{◌≡◌, ℕ, ◌<◌, ◌≤◌, ◌⊎◌, List, [], ◌∷◌, length, Some, sym, refl, ◌∙◌, subst, inl, inr, ⊎_elim, arith}
 use Rattle.std.proofs.lemmas.Bool.{cases_lt, lt-leb, leb-false, le-ltb, ltb-false}
+use Rattle.std.proofs.lemmas.Option.{none-some}
 use Rattle.refusals.specs.Refusals.{Told, refusal}
+use Rattle.refusals.proofs.FirstCause.{clear, accepts}
 use Rattle.matter.specs.Layouts.{Kind}
 use Rattle.agreement.specs.Flights.{State, Event, ordered, moved, heard, meddled, collected, booked, returned, refused, order, carry, meddle, collect, book, put_back, causes, Accepted, Answered, flight_toil}
 use Rattle.agreement.specs.Runs.{Run, still, then, Carry, Carries, accepted, accepted_in}
 use Rattle.agreement.specs.Rest.{OldestCarried, OldestCarries, Halted, RestReached}
-use Rattle.agreement.proofs.Causes.{none≢some, clear, accepts}
 use Rattle.agreement.proofs.RestComes.{rest_comes}
 
 halted_by : (ks : List Kind) (s : State) (v : Told) → refusal (causes ks s (carry 0)) ≡ Some v → Halted s.carrier
 halted_by ks s v e = ⊎_elim
     (λ (w : 0 < s.carrier.waiting). ⊎_elim
     (λ (r : s.carrier.spare < 3). inr r)
-    (λ r. absurd (none≢some (sym (accepts (causes ks s (carry 0)) (lt-leb s.carrier.waiting 0 w, (le-ltb s.carrier.spare 3 r, tt))) ∙ e)))
+    (λ r. absurd (none-some _ (sym (accepts (causes ks s (carry 0)) (lt-leb s.carrier.waiting 0 w, (le-ltb s.carrier.spare 3 r, tt))) ∙ e)))
     (cases_lt s.carrier.spare 3))
     (λ w. inl (omega arith))
     (cases_lt 0 s.carrier.waiting)

@@ -14,8 +14,10 @@
 --   collect_passed   an accepted collect: two craft, a number, and something to collect
 use Rattle.std.proofs.Common.{◌≡◌, ℕ, ◌+◌, ◌<◌, ◌≤◌, true, false, not, eqb, ltb, leb, List, [], ◌∷◌, ◌++◌, Some, None, sym, refl, ap, ◌∙◌, ⊎_elim, arith}
 use Rattle.std.proofs.lemmas.Bool.{cond-true, and_from, and_parts, or_left, or_right, eq-eqb, ne_eqb, lt-leb, leb-false, ltb-false, lt-ltb, le-leb, not_from_true, not-false}
+use Rattle.std.proofs.lemmas.Option.{none-some}
 use Rattle.sets.specs.Sets.{others}
 use Rattle.refusals.specs.Refusals.{Told, Cause, cause, refusal}
+use Rattle.refusals.proofs.FirstCause.{clear, accepts, clear_rest, refused_front, refused_back, refused_parts}
 use Rattle.matter.specs.Layouts.{Kind, word_refusal}
 use Rattle.frames.specs.declared.notes.Step.{Step}
 use Rattle.frames.specs.declared.notes.Step.TheVariants.{Send}
@@ -25,7 +27,7 @@ use Rattle.frames.specs.Notes.{is_send, sound, last_number, note}
 use Rattle.agreement.specs.Meanings.{Meaning}
 use Rattle.agreement.specs.Carrying.{Said, Hears, spent, say_causes, carry_causes, meddle_causes}
 use Rattle.agreement.specs.Flights.{State, order, carry, meddle, collect, word_cause, tight, collectable, causes, Accepted}
-use Rattle.agreement.proofs.Causes.{none≢some, clear, accepts, clear_rest, clear_word, refused_front, refused_back, refused_parts}
+use Rattle.agreement.proofs.Causes.{clear_word}
 
 pub say_accepted : (m : Meaning) (a : ℕ) (t : Note) → a < m.n → sound m.n a t ≡ true → 0 < m.spare → refusal (say_causes m a t ++ spent m) ≡ None
 say_accepted m a t h e r =
@@ -91,7 +93,7 @@ meddle_few ks s c to u e = leb-false s.carrier.f (others c s.carrier.astray) (cl
 pub handed_on : (cs : List Cause) (s : State) (v : Told) → 3 ≤ s.carrier.spare → refusal (cs ++ spent s.carrier) ≡ Some v → refusal (cs ++ tight s) ≡ Some v
 handed_on cs s v room e = ⊎_elim
     (λ (h : refusal cs ≡ Some v). refused_front cs (tight s) v h)
-    (λ h. absurd (none≢some (sym (accepts (spent s.carrier) (ne_eqb s.carrier.spare 0 (λ q. omega arith), tt)) ∙ h.1)))
+    (λ h. absurd (none-some _ (sym (accepts (spent s.carrier) (ne_eqb s.carrier.spare 0 (λ q. omega arith), tt)) ∙ h.1)))
     (refused_parts cs (spent s.carrier) v e)
 
 pub too_tight : (cs : List Cause) (s : State) → refusal cs ≡ None → s.carrier.spare < 3

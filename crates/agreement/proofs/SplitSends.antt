@@ -10,6 +10,7 @@ use Rattle.sets.specs.Sets.{In, only, others, passing}
 use Rattle.sets.proofs.Bits.{bit-only}
 use Rattle.sets.proofs.Passing.{passing_in}
 use Rattle.sets.proofs.Counts.{count-zero, count-only, count_by_members}
+use Rattle.refusals.proofs.FirstCause.{accepts}
 use Rattle.matter.specs.Layouts.{Kind}
 use Rattle.frames.specs.declared.notes.Step.TheVariants.{Send, Echo, Ready}
 use Rattle.frames.specs.declared.notes.Note.{Note}
@@ -21,7 +22,6 @@ use Rattle.agreement.specs.Flights.{State, Ledger, heard, meddle, meddled, Sayin
 use Rattle.agreement.specs.Runs.{still, then}
 use Rattle.agreement.specs.Lives.{state}
 use Rattle.agreement.specs.SplitSends.{own_frame, Split, SplitHeard}
-use Rattle.agreement.proofs.Causes.{accepts}
 use Rattle.agreement.proofs.Room.{own_sound}
 use Rattle.agreement.proofs.FirstVotes.{is_true, first_cases}
 use Rattle.agreement.proofs.IdealCarrier.{Net, mean, lawful, Triple, triple, spread, said_net, said, heard_net, hears-first, meddled_net, meddles, idle_net}

@@ -9,9 +9,9 @@ use Rattle.std.proofs.Common.{sym, ap, ◌∙◌, arith}
 use Rattle.std.proofs.lemmas.Bool.{leb-false, eqb-false, not-false}
 use Rattle.sets.specs.Sets.{has, others}
 use Rattle.refusals.specs.Refusals.{Told, refusal}
+use Rattle.refusals.proofs.FirstCause.{clear}
 use Rattle.frames.specs.declared.notes.Note.{Note}
 use Rattle.frames.specs.Notes.{sound}
-use Rattle.agreement.proofs.Causes.{clear}
 use Rattle.carriers.specs.Judging.{saying_causes, carrying_causes, meddling_causes}
 
 roomy : (s : ℕ) → (s == 0) ≡ false → 0 < s

@@ -1,17 +1,16 @@
 -- What holds of sound rows. Assumes nothing.
---   sound_apart, sound_bounded, sound_mutual, sound_from   soundness and its parts
+--   sound_apart, sound_bounded, sound_mutual   the parts of soundness
 --   empty_right, past_right   an empty row, and a row past the last, name rightly
 --   linked-below   both ends of a link are craft below n
 --   past_empty     rows at or past n are empty
 --   own_lacks      a row does not have its own craft
---   row_within, row_inside, row_lt   every row is within the craft below n
 --   linked_both    a link leads both ways
-use Rattle.std.proofs.Common.{◌≡◌, ℕ, ◌^◌, ◌<◌, ◌≤◌, true, false, List, length, get_or, sym, refl, ap, ◌∙◌, subst, arith, pow_pos}
+use Rattle.std.proofs.Common.{◌≡◌, ℕ, ◌<◌, ◌≤◌, false, List, length, get_or, sym, refl, ap, ◌∙◌, arith}
 use Rattle.std.proofs.lemmas.List.{get_or_past}
 use Rattle.std.proofs.lemmas.Bool.Decides.{same_from_decides, Decides-like}
-use Rattle.sets.specs.Sets.{bit, Within, has, inside, below}
-use Rattle.sets.proofs.Bits.{bit-zero, bit_below, same_bits}
-use Rattle.sets.proofs.Members.{has_decides, bit_lacks, not_in, within_by, within_inside, within_lt}
+use Rattle.sets.specs.Sets.{bit, has}
+use Rattle.sets.proofs.Bits.{bit-zero, same_bits}
+use Rattle.sets.proofs.Members.{has_decides, bit_lacks, not_in}
 use Rattle.charts.specs.Rows.{Linked, Right, Sound, Apart, Bounded, Mutual}
 
 -- ---- the parts of soundness
@@ -24,9 +23,6 @@ sound_bounded n rows s i j l = (s i j l).1
 
 pub sound_mutual : (n : ℕ) (rows : List ℕ) → Sound n rows → Mutual rows
 sound_mutual n rows s i j l = (s i j l).2
-
-pub sound_from : (n : ℕ) (rows : List ℕ) → Apart rows → Bounded n rows → Mutual rows → Sound n rows
-sound_from n rows a b m i j l = (λ e. a i (subst (λ (x : ℕ). Linked rows i x) e l), b i j l, m i j l)
 
 -- ---- rows that are not there
 
@@ -48,15 +44,6 @@ module _ (n : ℕ) (rows : List ℕ) (b : Bounded n rows) (m : Mutual rows) wher
 
 pub own_lacks : (rows : List ℕ) → Apart rows → (i : ℕ) → has (get_or rows i 0) i ≡ false
 own_lacks rows a i = bit_lacks (get_or rows i 0) i (not_in (get_or rows i 0) i (a i))
-
-pub row_within : (n : ℕ) (rows : List ℕ) → Bounded n rows → (i : ℕ) → Within (get_or rows i 0) (below n)
-row_within n rows b i = within_by (get_or rows i 0) (below n) (λ j l. bit_below n j (b i j l))
-
-pub row_inside : (n : ℕ) (rows : List ℕ) → Bounded n rows → (i : ℕ) → inside (get_or rows i 0) (below n) ≡ true
-row_inside n rows b i = within_inside (get_or rows i 0) (below n) (row_within n rows b i)
-
-pub row_lt : (n : ℕ) (rows : List ℕ) → Bounded n rows → (i : ℕ) → get_or rows i 0 < 2 ^ n
-row_lt n rows b i = within_lt n (get_or rows i 0) (below n) (row_within n rows b i) (omega (arith, pow_pos n))
 
 pub linked_both : (rows : List ℕ) → Mutual rows → (i j : ℕ) → has (get_or rows i 0) j ≡ has (get_or rows j 0) i
 linked_both rows m i j = same_from_decides _ _ (has_decides (get_or rows i 0) j)

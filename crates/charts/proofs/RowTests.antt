@@ -1,4 +1,5 @@
 -- The tests of rows and sizes decide what they say. Assumes nothing.
+--   decides_leb        the test of an order
 --   decides_sized      the test of the size
 --   decides_answered   the test that who is named names back
 --   decides_tests      the same, by the test of each craft
@@ -14,7 +15,7 @@ use Rattle.charts.specs.Causes.{Sized, sized}
 
 -- ---- the size
 
-decides_leb : (a b : ℕ) → Decides (leb a b) (a ≤ b)
+pub decides_leb : (a b : ℕ) → Decides (leb a b) (a ≤ b)
 decides_leb a b = (leb-true a b, le-leb a b)
 
 pub decides_sized : (n f : ℕ) → Decides (sized n f) (Sized n f)

@@ -8,15 +8,14 @@
 --   read_word_again   a word that is read is the word of what was read
 --   word_eight        a word has eight bytes
 --   made_read         values made into a matter, where they stand in a word of its kind, are that word read
---   other_kind        a word of no kind is refused at its highest byte
-use Rattle.std.specs.Prelude.{◌≡◌, ℕ, ◌+◌, ◌*◌, ◌/◌, ◌%◌, ◌^◌, ◌<◌, ◌≤◌, true, List, [], ◌∷◌, Some, None, Ok, Err, Option, Result, ◌==◌, refl}
+use Rattle.std.specs.Prelude.{◌≡◌, ℕ, ◌+◌, ◌*◌, ◌/◌, ◌%◌, ◌^◌, ◌<◌, ◌≤◌, List, [], ◌∷◌, Some, None, Ok, Err, Option, Result, ◌==◌, refl}
 use Rattle.std.proofs.Common.{sym, ap, subst, ◌∙◌, ⊎_elim, mul_assoc, add-mul, div-add-mod', arith, lit<, pow-add}
 use Rattle.std.proofs.Math.Nat.{mod-one, pow-le-pow_right}
 use Rattle.std.proofs.Math.Arith.{digits_lt, digits_div, digits_mod, mod-mul}
 use Rattle.std.proofs.lemmas.Bool.{eqb-true, le-ltb, or_from, cond-true, cond-false, cases_Bool}
 use Rattle.refusals.specs.declared.Fault.{Fault}
 use Rattle.refusals.specs.Refusals.{refusal}
-use Rattle.matter.specs.Layouts.{Field, Kind, width, packed, unpacked, outside, word_of, top, numbered, out_of_range, field_causes, word_causes, word_refusal, Reads, Made, ReadAs}
+use Rattle.matter.specs.Layouts.{Field, Kind, width, packed, unpacked, outside, word_of, top, numbered, field_causes, word_causes, Reads, Made, ReadAs}
 
 abbrev pub Fit : List Field → List ℕ → Type 0
 Fit [] [] = Unit {0}
@@ -140,6 +139,3 @@ made_read ks k kind fields w vs (Err e) same found values h =
     ap (λ (o : Option Kind). refusal (word_causes o w)) found
     ∙ ap (λ (us : List ℕ). refusal (field_causes 1 k.layout us)) values
     ∙ h
-
-pub other_kind : (ks : List Kind) (w : ℕ) → numbered ks (top w) ≡ None → word_refusal ks w ≡ Some (out_of_range 0 true).tells
-other_kind ks w none = ap (λ (o : Option Kind). refusal (word_causes o w)) none

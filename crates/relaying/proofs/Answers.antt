@@ -1,6 +1,7 @@
 -- What each call adds to what is heard. Assumes nothing.
 --   carry_answers, say_adds, meddle_adds_nothing   a carry, a say and a meddle
 use Rattle.std.proofs.Common.{◌≡◌, ℕ, Bool, true, false, ◌&&◌, ◌||◌, eqb, List, [], ◌∷◌, sym, refl, ap, ◌∙◌, subst, ⊎_elim}
+use Rattle.std.proofs.Math.Bool.{or-false}
 use Rattle.std.proofs.lemmas.Bool.{both_ways, cases_Bool, not-false, or_right}
 use Rattle.frames.specs.declared.notes.Note.{Note}
 use Rattle.links.specs.declared.entries.Entry.{Entry}
@@ -18,16 +19,12 @@ use Rattle.relaying.specs.Invariants.{Kept}
 use Rattle.relaying.specs.Laws.{Adds, Answers, CarryAnswers, Charted, MeddleAddsNothing, SayAdds}
 use Rattle.relaying.specs.States.{Carries, Setting, State, heard, held, stepped_at}
 
-or_false : (b : Bool) → (b || false) ≡ b
-or_false true = refl
-or_false false = refl
-
 -- where the empty set alone is held at one key, exactly that is heard more
 adds_empty : (s s' : State) (p a : ℕ) (x : Note) → Changed (held s) (held s') p a x (0 ∷ []) → Adds s p a x s'
 adds_empty s s' p a x ch b c y = ⊎_elim
     (λ (k : ((eqb b p && same_key c y a x) ≡ true) × (held s' b c y ≡ 0 ∷ [])).
     ap (holds 0) k.1 ∙ sym (or_right (heard s b c y) (eqb b p && same_key c y a x) k.0))
-    (λ k. ap (holds 0) k.1 ∙ sym (ap (λ (t : Bool). heard s b c y || t) k.0 ∙ or_false (heard s b c y)))
+    (λ k. ap (holds 0) k.1 ∙ sym (ap (λ (t : Bool). heard s b c y || t) k.0 ∙ or-false (heard s b c y)))
     (cases_change (held s) (held s') p a x (0 ∷ []) ch b c y)
 
 -- sets that few craft meet are not empty

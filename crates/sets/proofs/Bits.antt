@@ -104,21 +104,6 @@ pub union_assoc : (a b c : ℕ) → union (union a b) c ≡ union a (union b c)
 union_assoc a b c =
     same_bits _ _ (λ i. omega (arith, bit-union (union a b) c i, bit-union a b i, bit-union a (union b c) i, bit-union b c i))
 
-pub shared_assoc : (a b c : ℕ) → shared (shared a b) c ≡ shared a (shared b c)
-shared_assoc a b c =
-    same_bits _ _ (λ i. omega (arith, bit-shared (shared a b) c i, bit-shared a b i, bit-shared a (shared b c) i, bit-shared b c i))
-
-pub shared-union : (a b c : ℕ) → shared a (union b c) ≡ union (shared a b) (shared a c)
-shared-union a b c =
-    same_bits _ _ (λ i. omega (
-      arith,
-      bit-shared a (union b c) i,
-      bit-union b c i,
-      bit-union (shared a b) (shared a c) i,
-      bit-shared a b i,
-      bit-shared a c i,
-    ))
-
 -- the difference as `a & !b` computes it
 pub less_complement : (n a b : ℕ) → a < 2 ^ n → b < 2 ^ n → shared a (below n - b) ≡ less a b
 less_complement n a b la lb =

@@ -1,11 +1,11 @@
 -- The list of what is made for each craft of a set. Assumes nothing.
-use Rattle.std.proofs.Common.{◌≡◌, ℕ, zero, suc, ◌+◌, ◌-◌, ◌*◌, ◌/◌, ◌%◌, ◌^◌, ◌<◌, ◌≤◌, true, false, cond, List, [], ◌∷◌, ◌++◌, length, take, set, sym, refl, ap, ◌∙◌, subst, inl, inr, add-zero, add-suc, mod-eq_of_lt, add-one, arith}
+use Rattle.std.proofs.Common.{◌≡◌, ℕ, zero, suc, ◌+◌, ◌-◌, ◌*◌, ◌/◌, ◌%◌, ◌^◌, ◌<◌, ◌≤◌, true, false, cond, List, [], ◌∷◌, ◌++◌, length, sym, refl, ap, ◌∙◌, subst, inl, inr, add-zero, add-suc, mod-eq_of_lt, add-one, arith}
 use lib.Count.{ones, ones_step, ones_cat}
 use lib.Pow.{mod-pow-add}
 use Rattle.std.specs.List.{ContainsAt as Has, AllByRecursion as All}
 use Rattle.std.proofs.lemmas.Nat.{mod_below, pow_pos}
 use Rattle.std.proofs.ByRecursion.{All-append, has_push, has_append_left}
-use Rattle.std.proofs.lemmas.List.{append-nil, append_assoc, length-append, take_more_set}
+use Rattle.std.proofs.lemmas.List.{append-nil, length-append}
 use Rattle.std.proofs.lemmas.Bool.{cases_Bool, cases_eq, cond-true, cond-false}
 use Rattle.sets.specs.Sets.{bit, has, count, each}
 use Rattle.sets.proofs.Bits.{bit_shift}
@@ -131,12 +131,3 @@ module _ {X : Type 0} (f : ℕ → X) (s : ℕ) where
           | inr e ↦ subst (λ (t : List X). Has t (f k)) (sym (rw add-one at (each_out n e))) there
         ]
   ]
-
-  -- a turn of the loop that writes after `at` what is made for each craft: l was there before the loop, and m is there now
-  pub each_written : (l m : List X) (at len k : ℕ) → len ≡ at + length (each f s k) → take len m ≡ take at l ++ each f s k → has s k ≡ true → len < length m
-      → (len + 1 ≡ at + length (each f s (k + 1))) × (take (len + 1) (set m len (f k)) ≡ take at l ++ each f s (k + 1))
-  each_written l m at len k n t h r = (
-    omega (arith, ap length (each_in k h), length-append (each f s k) (f k ∷ [])),
-    take_more_set m len (f k) r ∙ ap (λ (x : List X). x ++ f k ∷ []) t ∙ append_assoc (take at l) (each f s k) (f k ∷ [])
-        ∙ ap (λ (x : List X). take at l ++ x) (sym (each_in k h)),
-  )

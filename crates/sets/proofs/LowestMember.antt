@@ -52,9 +52,6 @@ lowest_member k m p h = record {
   least = λ j e. ⊎_elim (λ (l : j < count_trailing_zeros k m). absurd (omega (arith, below_lowest k m j l))) (λ g. g) (cases_lt j (count_trailing_zeros k m));
 }
 
-pub lowest_unique : (i j m : ℕ) → IsLowest i m → IsLowest j m → i ≡ j
-lowest_unique i j m p q = omega (arith, p.least j q.member, q.least i p.member)
-
 -- ---- `m & (m - 1)`
 
 pub cleared_lowest : (i m : ℕ) → IsLowest i m → shared m (m - 1) ≡ m - only i

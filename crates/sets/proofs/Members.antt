@@ -1,8 +1,7 @@
 -- Who is a member: the test and the bit, subsets, sets of one, a set with one craft more. Assumes nothing.
-use Rattle.std.proofs.Common.{◌≡◌, ℕ, zero, suc, ◌-◌, ◌/◌, ◌%◌, ◌^◌, ◌<◌, ◌≤◌, true, false, eqb, ◌⊎◌, Decides, sym, ap, ◌∙◌, subst, inl, inr, ⊎_elim, pow-suc, arith, pow_pos}
+use Rattle.std.proofs.Common.{◌≡◌, ℕ, suc, ◌-◌, ◌%◌, ◌^◌, ◌<◌, ◌≤◌, true, false, eqb, ◌⊎◌, Decides, sym, ap, ◌∙◌, subst, inl, inr, ⊎_elim, arith}
 use lib.Arith.{bin_ind}
 use lib.Bits.{and_comm, and_self, and_le_l, and_zero_r}
-use Rattle.std.proofs.lemmas.Nat.{pow_below}
 use Rattle.std.proofs.lemmas.Bool.{cases_eq, cases_lt, eqb-true, eqb-false, eq-eqb, ne_eqb, not-true, not_from_false, both_ways, cond-true, cond-false, lt-ltb, le-ltb}
 use Rattle.sets.specs.Sets.{bit, In, Within, has, inside, meeting, union, shared, less, only, one_of, adding, below}
 use Rattle.sets.proofs.Bits.{bit_le, bit_shift, bit-zero, bit-shared, bit-union, bit-less, bit-only, bit-only_other, bit_below, bit_past, same_bits}
@@ -38,15 +37,8 @@ has_decides s k = (has_in s k, in_has s k)
 pub in_below : (n s k : ℕ) → s < 2 ^ n → In k s → k < n
 in_below n s k l h = ⊎_elim (λ (p : k < n). p) (λ g. absurd (omega (arith, bit_past n s k l g))) (cases_lt k n)
 
-pub has-below : (n s k : ℕ) → s < 2 ^ n → has s k ≡ true → k < n
-has-below n s k l h = in_below n s k l (has_in s k h)
-
 pub has_past : (n s k : ℕ) → s < 2 ^ n → n ≤ k → has s k ≡ false
 has_past n s k l g = bit_lacks s k (bit_past n s k l g)
-
-pub in_le : (m i : ℕ) → In i m → only i ≤ m
-in_le m zero h = omega arith
-in_le m (suc i) h = omega (arith, in_le (m / 2) i h, pow-suc 2 i)
 
 -- ---- the empty set
 
@@ -182,14 +174,6 @@ shared-only_none m i e =
     (λ ne. omega (arith, bit-shared m (only i) j, bit-zero j, bit-only_other i j ne)) (cases_eq i j))
 
 -- `m & (1 << i) != 0`
-pub only_decides : (m i : ℕ) → Decides (meeting m (only i)) (In i m)
-only_decides m i = (
-  λ e.
-      let r = (meeting_decides m (only i)).0 e in
-      subst (λ (j : ℕ). In j m) (sym (only_in i r.0 r.2)) r.1,
-  λ h. (meeting_decides m (only i)).1 (i, h, bit-only i),
-)
-
 -- one member taken out is subtracted
 pub less-only : (m i : ℕ) → In i m → less m (only i) ≡ m - only i
 less-only m i h = ap (λ (x : ℕ). m - x) (shared-only m i h)
@@ -203,9 +187,6 @@ one_of-below n i h = cond-true _ (only i) 0 (lt-ltb i n h)
 pub one_of_past : (n i : ℕ) → n ≤ i → one_of n i ≡ 0
 one_of_past n i h = cond-false _ (only i) 0 (le-ltb i n h)
 
-pub one_of_lt : (n i : ℕ) → one_of n i < 2 ^ n
-one_of_lt n i = ⊎_elim (λ (l : i < n). omega (arith, one_of-below n i l, pow_below i n l)) (λ g. omega (arith, one_of_past n i g, pow_pos n)) (cases_lt i n)
-
 -- ---- one craft more
 
 pub adding-has : (k s : ℕ) → has (adding k s) k ≡ true
@@ -218,9 +199,6 @@ adding_lacks k s j h =
       bit_lacks s j (omega (arith, bit-union s (only k) j)),
       λ e. both_ways (has (adding k s) j) h (subst (λ (i : ℕ). has (adding k s) i ≡ true) e (adding-has k s)),
     )
-
-pub adding_other : (k s j : ℕ) → (k ≡ j → ⊥) → bit (adding k s) j ≡ bit s j
-adding_other k s j ne = omega (arith, bit-union s (only k) j, bit-only_other k j ne)
 
 -- a member added is no change
 pub adding_same : (k s : ℕ) → In k s → adding k s ≡ s

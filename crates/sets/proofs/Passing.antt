@@ -2,10 +2,10 @@
 use Rattle.std.proofs.Common.{◌≡◌, ℕ, zero, suc, ◌+◌, ◌^◌, ◌<◌, ◌≤◌, Bool, true, false, cond, not, ◌&&◌, sym, refl, ap, ◌∙◌, ⊎_elim, pow-suc, arith, pow_pos}
 use lib.Bits.{or_lt, or_zero_r}
 use lib.Count.{ones}
-use Rattle.std.proofs.lemmas.Bool.{cases_Bool, cases_eq, both_ways, cond-true, and_from, not_from_false}
+use Rattle.std.proofs.lemmas.Bool.{cases_Bool, cases_eq, cond-true, and_from, not_from_false}
 use Rattle.sets.specs.Sets.{bit, In, Within, has, union, only, count, passing}
 use Rattle.sets.proofs.Bits.{bit_le, bit-union, bit-zero, bit-only, bit-only_other, bit_past}
-use Rattle.sets.proofs.Members.{has_in, in_has, bit_lacks, not_in, cases_in, in_below, within_by, same_members}
+use Rattle.sets.proofs.Members.{has_in, cases_in, within_by}
 use Rattle.sets.proofs.Counts.{count-zero, count_within, count_by_members, count-union, count-adding, one_outside}
 
 next_lt : (n : ℕ) (b : Bool) → cond b (only n) 0 < 2 ^ suc n
@@ -50,26 +50,8 @@ pub passing_within : (n : ℕ) (P Q : ℕ → Bool) → ((i : ℕ) → i < n →
 passing_within n P Q h =
     within_by (passing n P) (passing n Q) (λ i e. let r = passing_in n P i e in in_passing n Q i r.0 (h i r.0 r.1))
 
-pub has-passing : (n : ℕ) (P : ℕ → Bool) (i : ℕ) → i < n → has (passing n P) i ≡ P i
-has-passing n P i l = ⊎_elim
-    (λ (e : P i ≡ true). in_has (passing n P) i (in_passing n P i l e) ∙ sym e)
-    (λ (e : P i ≡ false).
-    bit_lacks (passing n P) i (not_in (passing n P) i (λ h. both_ways (P i) e (passing_in n P i h).1)) ∙ sym e)
-    (cases_Bool (P i))
-
 -- the same craft pass tests that agree
-pub passing_same : (n : ℕ) (P Q : ℕ → Bool) → ((i : ℕ) → i < n → P i ≡ Q i) → passing n P ≡ passing n Q
-passing_same n P Q h =
-    same_members (passing n P) (passing n Q)
-    (λ i e. let r = passing_in n P i e in in_passing n Q i r.0 (sym (h i r.0) ∙ r.1))
-    (λ i e. let r = passing_in n Q i e in in_passing n P i r.0 (h i r.0 ∙ r.1))
-
 -- a set within n labels is that of the craft that are in it
-pub passing-has : (n s : ℕ) → s < 2 ^ n → passing n (has s) ≡ s
-passing-has n s l =
-    same_members (passing n (has s)) s (λ i e. has_in s i (passing_in n (has s) i e).1)
-    (λ i e. in_passing n (has s) i (in_below n s i l e) (in_has s i e))
-
 -- ---- how many
 
 pub count-passing_mono : (n : ℕ) (P Q : ℕ → Bool) → ((i : ℕ) → i < n → P i ≡ true → Q i ≡ true) → count (passing n P) ≤ count (passing n Q)
