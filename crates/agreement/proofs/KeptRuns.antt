@@ -5,19 +5,23 @@
 --   source_of      a sound Send is of its author's own order
 --   heard-step     so does a carry by which a note is heard
 --   order_step     so does an order
+--   booked_word    what a book wrote is the delivered word
 --   kept_step      so does every call
-use Rattle.std.proofs.Common.{◌≡◌, ℕ, ◌≤◌, Bool, true, false, not, eqb, ltb, leb, ◌⊎◌, List, ◌∷◌, Some, Option, sym, refl, ap, ◌∙◌, inl, inr, ⊎_elim, arith}
-use Rattle.std.proofs.lemmas.Bool.{eqb-true, and_parts, or_cases, not-true, both_ways, true≢false}
+use Rattle.std.proofs.Common.{◌≡◌, ℕ, ◌+◌, ◌≤◌, Bool, true, false, not, eqb, ltb, leb, ◌⊎◌, List, ◌∷◌, length, Some, Option, sym, refl, ap, ◌∙◌, inl, inr, ⊎_elim, arith}
+use Rattle.std.proofs.lemmas.Bool.{eqb-true, ltb-false, and_parts, or_cases, not-true, both_ways, true≢false}
 use Rattle.sets.specs.Sets.{bit, In, count, adding, only}
 use Rattle.sets.proofs.Members.{union_within_left, union_in, only_in}
 use Rattle.sets.proofs.Counts.{adding_most}
+use Rattle.refusals.proofs.FirstCause.{clear}
 use Rattle.matter.specs.Layouts.{Kind}
 use Rattle.frames.specs.declared.notes.Step.TheVariants.{Send, Echo}
 use Rattle.frames.specs.declared.notes.Note.{Note}
 use Rattle.frames.specs.Notes.{last_number, is_send, sound, note}
+use Rattle.frames.specs.Lines.{line_length, line_at}
+use Rattle.frames.proofs.LineLaws.{placed_line, line_word}
 use Rattle.agreement.specs.Meanings.{Meaning, Lawful}
 use Rattle.agreement.specs.Carrying.{Adds, Silent, Fixed}
-use Rattle.agreement.specs.Flights.{State, Ledger, Delivery, Event, ordered, moved, heard, meddled, collected, booked, returned, refused, order, Accepted, Answered, Ordering, Hearing, SameVotes, SameOrders}
+use Rattle.agreement.specs.Flights.{State, Ledger, Delivery, Event, ordered, moved, heard, meddled, collected, booked, returned, refused, order, book, causes, Accepted, Answered, Ordering, Hearing, Booking, SameVotes, SameOrders}
 use Rattle.agreement.specs.Runs.{Tells, Books, Orders, Misleads, Astray}
 use Rattle.agreement.proofs.Room.{order_passed, meddle_few}
 use Rattle.agreement.proofs.HeardNotes.{adds_cases, adds_keeps, adds_it, Own}
@@ -142,8 +146,14 @@ order_step g ks es s s' c k w d ok x law h =
 
 -- ---- every call
 
-booked_word : (s : State) (c o k w p b j v : ℕ) → (s.ledger.votes c o k).delivered ≡ Some w → (c ≡ p) × (o ≡ b) × (k ≡ j) × (w ≡ v) → (s.ledger.votes p b j).delivered ≡ Some v
-booked_word s c o k w p b j v e q = (λ i. (s.ledger.votes (sym q.0 i) (sym q.1 i) (sym q.2 i)).delivered) ∙ e ∙ ap (λ (z : ℕ). Some z) q.3
+-- the line that a book wrote is read off its buffer, and tells the delivered word
+booked_word : (ks : List Kind) (s s' : State) (c o k place : ℕ) (buffer after : List ℕ) (p b j v : ℕ) → Accepted ks s (book c o k place buffer)
+    → Booking s c o k place buffer after s' → Books (booked c o k place buffer after) p b j v → (s.ledger.votes p b j).delivered ≡ Some v
+booked_word ks s s' c o k place buffer after p b j v ok x q =
+    let room = ltb-false (length buffer) (place + line_length) (clear (causes ks s (book c o k place buffer)) ok).1.0 in
+    let stands = ap (λ (t : List ℕ). line_at t place) x.written ∙ placed_line buffer place c o k x.word room in
+    let word = line_word c o k x.word p b j v x.fits q.3 (sym stands ∙ q.4) in
+    (λ i. (s.ledger.votes (sym q.0 i) (sym q.1 i) (sym q.2 i)).delivered) ∙ x.delivered ∙ ap (λ (z : ℕ). Some z) word
 
 pub kept_step : (g : ℕ) (ks : List Kind) (es : List Event) (s s' : State) (e : Event) → Answered g ks s e s' → Lawful s'.carrier → Kept es s → Kept (e ∷ es) s'
 kept_step g ks es s s' (ordered c k w d) x law h = order_step g ks es s s' c k w d x.0 x.1 law h
@@ -163,9 +173,9 @@ kept_step g ks es s s' (meddled c to u) x law h =
     (λ j e. misled_by s.carrier.astray c j (ap (λ (z : ℕ). bit z j) (sym q.astray) ∙ e)) h
 kept_step g ks es s s' (collected c o k) x law h =
     same_carrier es (collected c o k) s s' x.1.carrier x.1.votes x.1.orders (λ p b j w z. z) (λ p b j w z. absurd z) (λ b j w z. z) h
-kept_step g ks es s s' (booked c o k place buffer w) x law h =
-    same_carrier es (booked c o k place buffer w) s s' x.1.carrier x.1.votes x.1.orders (λ p b j v z. z)
-    (λ p b j v z. booked_word s c o k w p b j v x.1.word z)
+kept_step g ks es s s' (booked c o k place buffer after) x law h =
+    same_carrier es (booked c o k place buffer after) s s' x.1.carrier x.1.votes x.1.orders (λ p b j v z. z)
+    (λ p b j v z. booked_word ks s s' c o k place buffer after p b j v x.0 x.1 z)
     (λ b j v z. z) h
 kept_step g ks es s s' (returned c o k) x law h =
     same_carrier es (returned c o k) s s' x.1.carrier x.1.votes x.1.orders (λ p b j w z. z) (λ p b j w z. absurd z) (λ b j w z. z) h

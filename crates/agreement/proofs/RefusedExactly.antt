@@ -14,7 +14,7 @@ by_causes g ks s s' (moved i) x = x.0
 by_causes g ks s s' (heard i l a t d) x = x.0
 by_causes g ks s s' (meddled c to u) x = x.0
 by_causes g ks s s' (collected c o k) x = x.0
-by_causes g ks s s' (booked c o k place buffer w) x = x.0
+by_causes g ks s s' (booked c o k place buffer after) x = x.0
 by_causes g ks s s' (returned c o k) x = x.0
 by_causes g ks s s' (refused c v) x = x.0
 
@@ -24,7 +24,7 @@ leaves_it g ks s s' (moved i) v x e = absurd (none-some _ e)
 leaves_it g ks s s' (heard i l a t d) v x e = absurd (none-some _ e)
 leaves_it g ks s s' (meddled c to u) v x e = absurd (none-some _ e)
 leaves_it g ks s s' (collected c o k) v x e = absurd (none-some _ e)
-leaves_it g ks s s' (booked c o k place buffer w) v x e = absurd (none-some _ e)
+leaves_it g ks s s' (booked c o k place buffer after) v x e = absurd (none-some _ e)
 leaves_it g ks s s' (returned c o k) v x e = absurd (none-some _ e)
 leaves_it g ks s s' (refused c u) v x e = x.1
 

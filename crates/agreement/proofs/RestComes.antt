@@ -165,7 +165,7 @@ carry_falls g ks s s' (moved i) only x = moved_falls g s s' x.1
 carry_falls g ks s s' (heard i l a t d) only x = heard_falls g s s' l a t d x.1
 carry_falls g ks s s' (meddled c to u) only x = absurd only
 carry_falls g ks s s' (collected c o k) only x = absurd only
-carry_falls g ks s s' (booked c o k place buffer w) only x = absurd only
+carry_falls g ks s s' (booked c o k place buffer after) only x = absurd only
 carry_falls g ks s s' (returned c o k) only x = absurd only
 carry_falls g ks s s' (refused c v) only x = subst (λ (z : State). 0 + flight_toil g z ≤ flight_toil g s) (sym x.1) (omega arith)
 

@@ -50,7 +50,7 @@ slips_step g ks s s' (collected b p j) x h c o k e =
     (λ (i : s.ledger.out c o k ≡ true). h c o k i)
     (λ i. let q = here-parts b p j c o k i in subst₃ (λ (y z u : ℕ). Word s.ledger y z u) q.0 q.1 q.2 (collected_word ks s b p j x.0))
     (or_cases (s.ledger.out c o k) (here b p j c o k) (sym (x.1.out c o k) ∙ e)))
-slips_step g ks s s' (booked b p j place buffer w) x h c o k e =
+slips_step g ks s s' (booked b p j place buffer after) x h c o k e =
     same_word s s' x.1.votes c o k (h c o k (and_parts (s.ledger.out c o k) _ (sym (x.1.out c o k) ∙ e)).0)
 slips_step g ks s s' (returned b p j) x h c o k e =
     same_word s s' x.1.votes c o k (h c o k (and_parts (s.ledger.out c o k) _ (sym (x.1.out c o k) ∙ e)).0)

@@ -8,7 +8,6 @@
 --   word_cause    why a word is refused, as a cause that holds where there is a refusal
 --   tight         fewer than three are spare (8)
 --   collectable   delivered, no slip out, not booked
---   line_length   the bytes of a booking line, 28
 --   causes        why a call is refused, of matter of the kinds ks: the causes in the order in which they are tested
 --                   order      no craft (1), no number (5), no word of these kinds (as the word's reader tells it), ordered before (6), tight (8)
 --                   carry      what the carrier refuses but its 8, tight (8)
@@ -32,14 +31,15 @@
 --   votes_said    the Echoes and Readies, at most one each, that craft p said of one order
 --   total_said    the Echoes and Readies that n craft said, of all their orders
 --   flight_toil   the carrier's toil, and g for each of the 8n² notes that are not said yet: each craft says an Echo and a Ready of 4n orders at most
-use Rattle.std.specs.Prelude.{◌≡◌, ℕ, zero, suc, ◌+◌, ◌-◌, ◌*◌, Bool, true, cond, not, ◌&&◌, ◌||◌, List, [], ◌∷◌, ◌++◌, Some, None, Option, ◌==◌, nat_le, nat_lt}
+use Rattle.std.specs.Prelude.{◌≡◌, ℕ, zero, suc, ◌+◌, ◌-◌, ◌*◌, ◌^◌, ◌<◌, Bool, true, cond, not, ◌&&◌, ◌||◌, List, [], ◌∷◌, ◌++◌, Some, None, Option, ◌==◌, nat_le, nat_lt}
 use Rattle.refusals.specs.Refusals.{Told, Cause, cause, refusal}
 use Rattle.matter.specs.Layouts.{Kind, word_refusal}
 use Rattle.frames.specs.declared.notes.Step.TheVariants.{Send}
 use Rattle.frames.specs.declared.notes.Note.{Note}
 use Rattle.frames.specs.declared.notes.Frame.{Frame}
 use Rattle.frames.specs.Notes.{last_number, note}
-use Rattle.frames.specs.Bytes.{place_causes}
+use Rattle.frames.specs.Bytes.{placed, place_causes}
+use Rattle.frames.specs.Lines.{line, line_length}
 use Rattle.agreement.specs.Meanings.{Meaning}
 use Rattle.agreement.specs.Carrying.{Said, Quiet, Hears, Meddled, carry_causes, meddle_causes}
 use Rattle.agreement.specs.Votes.{Tally, Turn, present, hear, notes_said}
@@ -60,7 +60,7 @@ pub record Delivery : Type 0 where
   pub number : ℕ
   pub word : ℕ
 
--- book takes the buffer that the line is written into, and the place in it
+-- book takes the buffer that the line is written into, and the place in it; its event has the buffer after, too
 pub data Call : Type 0 where
   order : (craft number word : ℕ) → Call
   carry : (index : ℕ) → Call
@@ -75,7 +75,7 @@ pub data Event : Type 0 where
   heard : (index listener author : ℕ) → Note → Option Delivery → Event
   meddled : (craft to : ℕ) → Frame → Event
   collected : (craft origin number : ℕ) → Event
-  booked : (craft origin number place : ℕ) → (buffer : List ℕ) → (word : ℕ) → Event
+  booked : (craft origin number place : ℕ) → (buffer after : List ℕ) → Event
   returned : (craft origin number : ℕ) → Event
   refused : Call → Told → Event
 
@@ -90,9 +90,6 @@ tight s = cause 4 8 (s.carrier.spare ∷ []) (nat_lt s.carrier.spare 3) ∷ []
 
 abbrev pub collectable : Ledger → ℕ → ℕ → ℕ → Bool
 collectable b c o k = present (b.votes c o k).delivered && (not (b.out c o k) && not (b.booked c o k))
-
-abbrev pub line_length : ℕ
-line_length = 28
 
 abbrev pub causes : List Kind → State → Call → List Cause
 causes ks s (order c k w) =
@@ -180,9 +177,12 @@ pub record Collecting (s : State) (c o k : ℕ) (s' : State) : Type 0 where
   pub out : (c' o' k' : ℕ) → s'.ledger.out c' o' k' ≡ (s.ledger.out c' o' k' || here c o k c' o' k')
   pub booked : SameBooked s s'
 
--- a slip is spent, and the delivered word is written
-pub record Booking (s : State) (c o k w : ℕ) (s' : State) : Type 0 where
-  pub word : (s.ledger.votes c o k).delivered ≡ Some w
+-- a slip is spent, and the line of the delivered word is written at the place, over what stood there; every other byte is as it was
+pub record Booking (s : State) (c o k place : ℕ) (buffer after : List ℕ) (s' : State) : Type 0 where
+  pub word : ℕ
+  pub delivered : (s.ledger.votes c o k).delivered ≡ Some word
+  pub fits : word < 2 ^ 64
+  pub written : after ≡ placed buffer place (line c o k word)
   pub carrier : s'.carrier ≡ s.carrier
   pub votes : SameVotes s s'
   pub orders : SameOrders s s'
@@ -203,7 +203,7 @@ Answered g ks s (moved i) s' = Accepted ks s (carry i) × Moving s s'
 Answered g ks s (heard i l a t d) s' = Accepted ks s (carry i) × Hearing g s l a t d s'
 Answered g ks s (meddled c to x) s' = Accepted ks s (meddle c to x) × Meddling s c s'
 Answered g ks s (collected c o k) s' = Accepted ks s (collect c o k) × Collecting s c o k s'
-Answered g ks s (booked c o k place buffer w) s' = Accepted ks s (book c o k place buffer) × Booking s c o k w s'
+Answered g ks s (booked c o k place buffer after) s' = Accepted ks s (book c o k place buffer) × Booking s c o k place buffer after s'
 Answered g ks s (returned c o k) s' = Accepted ks s (put_back c o k) × Returning s c o k s'
 Answered g ks s (refused c v) s' = (refusal (causes ks s c) ≡ Some v) × (s' ≡ s)
 

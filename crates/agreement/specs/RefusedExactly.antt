@@ -13,7 +13,7 @@ call_of (moved i) = carry i
 call_of (heard i l a t d) = carry i
 call_of (meddled c to x) = meddle c to x
 call_of (collected c o k) = collect c o k
-call_of (booked c o k place buffer w) = book c o k place buffer
+call_of (booked c o k place buffer after) = book c o k place buffer
 call_of (returned c o k) = put_back c o k
 call_of (refused c v) = c
 
@@ -23,7 +23,7 @@ told_by (moved i) = None
 told_by (heard i l a t d) = None
 told_by (meddled c to x) = None
 told_by (collected c o k) = None
-told_by (booked c o k place buffer w) = None
+told_by (booked c o k place buffer after) = None
 told_by (returned c o k) = None
 told_by (refused c v) = Some v
 

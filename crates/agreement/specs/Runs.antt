@@ -3,7 +3,7 @@
 --   Opening     a fresh carrier and an empty ledger
 --   Run         every list of calls with their answers, the newest first, each from what the one before left; the carrier is lawful throughout
 --   Tells       the answer of this event, an accepted order or carry, tells p that o's order number k is w
---   Books       this event is an accepted book by p of the word w, under o's number k
+--   Books       this event is an accepted book by p under o's number k, and the line that its buffer holds then at its place is the one of the word w
 --   Orders      this event is an accepted order of w by o, under the number k
 --   Misleads    this event is an accepted meddle by i
 --   SomeOf      some event of a list does
@@ -13,8 +13,9 @@
 --   Carries     a list of carries alone
 --   accepted, accepted_in
 --               1 for an accepted call and 0 for a refused one; how many calls of a list are accepted
-use Rattle.std.specs.Prelude.{◌≡◌, ℕ, ◌+◌, false, ◌⊎◌, List, [], ◌∷◌, Some}
+use Rattle.std.specs.Prelude.{◌≡◌, ℕ, ◌+◌, ◌^◌, ◌<◌, false, ◌⊎◌, List, [], ◌∷◌, Some}
 use Rattle.matter.specs.Layouts.{Kind}
+use Rattle.frames.specs.Lines.{line, line_at}
 use Rattle.agreement.specs.Meanings.{Lawful, Fresh}
 use Rattle.agreement.specs.Votes.{blank}
 use Rattle.agreement.specs.Flights.{State, Ledger, Event, ordered, moved, heard, meddled, collected, booked, returned, refused, order, carry, meddle, collect, book, put_back, Answered}
@@ -39,7 +40,7 @@ Tells (moved i) p o k w = ⊥
 Tells (heard i l a t d) p o k w = d ≡ Some (record { craft = p; origin = o; number = k; word = w })
 Tells (meddled c to x) p o k w = ⊥
 Tells (collected c b j) p o k w = ⊥
-Tells (booked c b j place buffer v) p o k w = ⊥
+Tells (booked c b j place buffer after) p o k w = ⊥
 Tells (returned c b j) p o k w = ⊥
 Tells (refused c v) p o k w = ⊥
 
@@ -49,7 +50,7 @@ Books (moved i) p o k w = ⊥
 Books (heard i l a t d) p o k w = ⊥
 Books (meddled c to x) p o k w = ⊥
 Books (collected c b j) p o k w = ⊥
-Books (booked c b j place buffer v) p o k w = (c ≡ p) × (b ≡ o) × (j ≡ k) × (v ≡ w)
+Books (booked c b j place buffer after) p o k w = (c ≡ p) × (b ≡ o) × (j ≡ k) × (w < 2 ^ 64) × (line_at after place ≡ line p o k w)
 Books (returned c b j) p o k w = ⊥
 Books (refused c v) p o k w = ⊥
 
@@ -59,7 +60,7 @@ Orders (moved i) o k w = ⊥
 Orders (heard i l a t d) o k w = ⊥
 Orders (meddled c to x) o k w = ⊥
 Orders (collected c b j) o k w = ⊥
-Orders (booked c b j place buffer v) o k w = ⊥
+Orders (booked c b j place buffer after) o k w = ⊥
 Orders (returned c b j) o k w = ⊥
 Orders (refused c v) o k w = ⊥
 
@@ -69,7 +70,7 @@ Misleads (moved x) i = ⊥
 Misleads (heard x l a t d) i = ⊥
 Misleads (meddled c to x) i = c ≡ i
 Misleads (collected c b j) i = ⊥
-Misleads (booked c b j place buffer v) i = ⊥
+Misleads (booked c b j place buffer after) i = ⊥
 Misleads (returned c b j) i = ⊥
 Misleads (refused c v) i = ⊥
 
@@ -95,7 +96,7 @@ Carry (moved i) = Unit {0}
 Carry (heard i l a t d) = Unit {0}
 Carry (meddled c to x) = ⊥
 Carry (collected c b j) = ⊥
-Carry (booked c b j place buffer v) = ⊥
+Carry (booked c b j place buffer after) = ⊥
 Carry (returned c b j) = ⊥
 Carry (refused (order c j v) x) = ⊥
 Carry (refused (carry i) x) = Unit {0}
@@ -114,7 +115,7 @@ accepted (moved i) = 1
 accepted (heard i l a t d) = 1
 accepted (meddled c to x) = 1
 accepted (collected c b j) = 1
-accepted (booked c b j place buffer v) = 1
+accepted (booked c b j place buffer after) = 1
 accepted (returned c b j) = 1
 accepted (refused c v) = 0
 

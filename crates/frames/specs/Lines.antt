@@ -3,8 +3,11 @@
 --   Booked           what the constructor of a booking answers
 --   hex              one lowercase hexadecimal digit, as its ASCII code
 --   hexes            two digits for each byte
---   line_bytes       "book", craft, origin, number and word, one space between, and a line feed
-use Rattle.std.specs.Prelude.{◌≡◌, ℕ, ◌+◌, ◌/◌, ◌%◌, cond, List, [], ◌∷◌, ◌++◌, Some, None, Ok, Err, codes, Result, nat_le, nat_lt}
+--   line             "book", craft, origin, number and word, one space between, and a line feed
+--   line_bytes       the line of a booking
+--   line_length      the bytes of a line, 28
+--   line_at          the bytes of a buffer where a line stands, from a place on
+use Rattle.std.specs.Prelude.{◌≡◌, ℕ, ◌+◌, ◌/◌, ◌%◌, cond, List, [], ◌∷◌, ◌++◌, take, drop, Some, None, Ok, Err, codes, Result, nat_le, nat_lt}
 use Rattle.refusals.specs.declared.Fault.{Fault}
 use Rattle.frames.specs.declared.bookings.Booking.{Booking}
 use Rattle.matter.specs.Words.{word_bytes}
@@ -33,5 +36,14 @@ abbrev pub hexes : List ℕ → List ℕ
 hexes [] = []
 hexes (b ∷ bs) = hex (b / 16) ∷ hex (b % 16) ∷ hexes bs
 
+abbrev pub line : ℕ → ℕ → ℕ → ℕ → List ℕ
+line craft origin number word = codes "book " ++ (hex craft ∷ 32 ∷ hex origin ∷ 32 ∷ hex number ∷ 32 ∷ (hexes (word_bytes word) ++ (10 ∷ [])))
+
 abbrev pub line_bytes : Booking → List ℕ
-line_bytes b = codes "book " ++ (hex b.craft ∷ 32 ∷ hex b.origin ∷ 32 ∷ hex b.number ∷ 32 ∷ (hexes (word_bytes b.word) ++ (10 ∷ [])))
+line_bytes b = line b.craft b.origin b.number b.word
+
+abbrev pub line_length : ℕ
+line_length = 28
+
+abbrev pub line_at : List ℕ → ℕ → List ℕ
+line_at buf at = take line_length (drop at buf)
