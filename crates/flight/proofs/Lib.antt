@@ -1,0 +1,4 @@
+pub mod MarkLaws
+pub mod Orders
+pub mod Hearings
+pub mod Spoken

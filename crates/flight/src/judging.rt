@@ -1,0 +1,86 @@
+// Why a call of a flight is refused: the causes in the order in which they are tested.
+ghost use Rattle.std.specs.Prelude.{◌≡◌, ℕ, ◌<◌, ◌≤◌, OnOk};
+ghost use Rattle.sets.specs.Sets.{labels};
+ghost use Rattle.frames.specs.Notes.{last_number};
+ghost use Rattle.matter.specs.Layouts.{word_refusal};
+ghost use Rattle.agreement.specs.Flights.{order, carry, meddle, collect, word_cause, causes};
+ghost use Rattle.carriers.specs.Judging.{Judged};
+ghost use Rattle.flight.specs.Ledgers.{state_of, room_causes};
+
+use crate::flight::Flight;
+use carriers::Carrier;
+use frames::{Frame, LAST_NUMBER};
+use matter::Matter;
+use refusals::{Fault, Layer, Refusal};
+use sets::{contains, count_others};
+
+// Whether a word is one of this matter; 11.
+fn judge_word<M: Matter + Drop>(word: u64) -> Result<(), Fault>
+    ensures { Judged (word_cause (word_refusal M.kinds word)) result }
+{
+    let _read = M::of_word(word)?;
+    Ok(())
+}
+
+// Whether three are spare; 8.
+fn judge_room(spare: usize) -> Result<(), Fault>
+    ensures { Judged (room_causes spare) result }
+{
+    if spare < 3 {
+        return Err(Layer::Flight.refuses(Refusal::Spare(spare)));
+    }
+    Ok(())
+}
+
+impl<C: Carrier, M: Matter + Drop> Flight<C, M> {
+    // Whether an order is refused; 1, 5, 11, 6, 8.
+    pub(crate) fn judge_order(&self, craft: u8, number: u8, word: u64) -> Result<(), Fault>
+        ensures causes { Judged (causes M.kinds (state_of C.meaning self.now) (order craft number word)) result }
+        ensures label { OnOk result (craft < (C.meaning self.now.carrier).n) }
+        ensures few { OnOk result (craft < labels) }
+        ensures number { OnOk result (number ≤ last_number) }
+    {
+        if craft >= self.carrier.craft() {
+            return Err(Layer::Flight.refuses(Refusal::Label(craft)));
+        }
+        if number > LAST_NUMBER {
+            return Err(Layer::Flight.refuses(Refusal::Number(number)));
+        }
+        judge_word::<M>(word)?;
+        if contains(self.ordered[craft as usize], number) {
+            return Err(Layer::Flight.refuses(Refusal::Ordered(number)));
+        }
+        judge_room(self.carrier.spare())
+    }
+
+    // Whether a carry is refused; 7, 8.
+    pub(crate) fn judge_carry(&self, index: usize) -> Result<(), Fault>
+        ensures { Judged (causes M.kinds (state_of C.meaning self.now) (carry index)) result }
+    {
+        let waiting = self.carrier.waiting();
+        if index >= waiting {
+            return Err(Layer::Carriers.refuses(Refusal::Index(waiting)));
+        }
+        judge_room(self.carrier.spare())
+    }
+
+    // Whether a meddle is refused; 1 of c, 1 of the craft that it meddles to, 9, 10, 8.
+    pub(crate) fn judge_meddle(&self, c: u8, to: u8, frame: &Frame) -> Result<(), Fault>
+        ensures { Judged (causes M.kinds (state_of C.meaning self.now) (meddle c to frame.now)) result }
+    {
+        let n = self.carrier.craft();
+        if c >= n {
+            return Err(Layer::Carriers.refuses(Refusal::Label(c)));
+        }
+        if to >= n {
+            return Err(Layer::Carriers.refuses(Refusal::Label(to)));
+        }
+        if !contains(self.carrier.row(c), to) {
+            return Err(Layer::Carriers.refuses(Refusal::NoLink(c)));
+        }
+        if count_others(self.carrier.astray(), c) >= u32::from(self.carrier.most_astray()) {
+            return Err(Layer::Carriers.refuses(Refusal::Astray(c)));
+        }
+        judge_room(self.carrier.spare())
+    }
+}

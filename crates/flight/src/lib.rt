@@ -1,0 +1,14 @@
+// A flight: craft that order, vote and book, over any carrier.
+#![tactic(auto)]
+
+pub mod booking;
+pub mod flight;
+pub mod judging;
+pub mod marking;
+pub mod slips;
+pub mod speaking;
+pub mod steps;
+pub mod voting;
+
+pub use flight::{Flight, Hearing};
+pub use slips::Slip;
