@@ -2,3 +2,4 @@ pub mod MarkLaws
 pub mod Orders
 pub mod Hearings
 pub mod Spoken
+pub mod Executing

@@ -5,3 +5,4 @@ pub mod Voting
 pub mod Marking
 pub mod Slips
 pub mod Lives
+pub mod Lists

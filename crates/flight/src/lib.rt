@@ -3,7 +3,9 @@
 
 pub mod booking;
 pub mod flight;
+pub mod flying;
 pub mod judging;
+pub mod lists;
 pub mod marking;
 pub mod slips;
 pub mod speaking;
@@ -11,4 +13,6 @@ pub mod steps;
 pub mod voting;
 
 pub use flight::{Flight, Hearing};
+pub use flying::execute_all;
+pub use lists::{Answer, Command};
 pub use slips::Slip;

@@ -1,0 +1,107 @@
+-- Commands, one after the other. Assumes nothing.
+--   steps_live      calls go on with a life
+--   steps_on        calls after calls
+--   apart           a call that leaves the carrier as it was
+--   goes_on         calls go on with a life, and then the craft agree
+--   executed, executed_once
+--                   a command, and one that is one call
+--   all_none, all_on   no commands, and one command more
+--   taken           a slip that was just collected is taken back
+--   books_written, books_no_room
+--                   the calls of a booking, by the labels of its slip
+use Rattle.std.proofs.Common.{◌≡◌, ℕ, ◌+◌, ◌<◌, Bool, true, false, cond, not, ◌&&◌, eqb, List, [], ◌∷◌, ◌++◌, length, get_or, set, take, append_assoc, Some, None, Ok, Err, Option, Result, sym, refl, ap, subst, ◌∙◌}
+use Rattle.std.proofs.lemmas.Bool.{cond-false, and_from, eq-eqb, or_right}
+use Rattle.std.proofs.lemmas.List.{take_more, take_more_set}
+use Rattle.std.proofs.lemmas.Option.{none-some}
+use Rattle.refusals.specs.declared.Fault.{Fault}
+use Rattle.refusals.specs.Refusals.{Told, told}
+use Rattle.matter.specs.Layouts.{Kind}
+use Rattle.frames.specs.declared.notes.Note.{Note}
+use Rattle.frames.specs.declared.notes.Frame.{Frame}
+use Rattle.agreement.specs.Meanings.{Meaning, Lawful}
+use Rattle.agreement.specs.Flights.{State, Event, collected, booked, returned, refused, Call, collect, book, put_back, here, Answered}
+use Rattle.agreement.specs.Lives.{called}
+use Rattle.agreement.proofs.Agrees.{agreement_over_lem}
+use Rattle.carriers.specs.declared.heard.Heard.{Heard}
+use Rattle.flight.specs.declared.flight.Flight.{Flight}
+use Rattle.flight.specs.declared.lists.Command.{Command}
+use Rattle.flight.specs.declared.lists.Answer.{Answer}
+use Rattle.flight.specs.Ledgers.{state_of}
+use Rattle.flight.specs.Exact.{Exactly}
+use Rattle.flight.specs.Lives as lives
+use Rattle.flight.specs.Lives.{Lived, Step, Steps}
+use Rattle.flight.specs.Lists.{Books, written, no_room, Does, Did, GoesOn, Executed, ExecutedAll}
+use Rattle.flight.specs.Lists as lists
+
+module _ {C M : Type 0} (meaning : C → Meaning) (sound : C → Type 0) (g : ℕ) (ks : List Kind) (says : C → ℕ → Note → Result Unit Fault → C → Type 0)
+    (carries : C → ℕ → Result (Option Heard) Fault → C → Type 0) (meddles : C → ℕ → ℕ → Frame → Result Unit Fault → C → Type 0) where
+  abbrev Goes : Flight C M → List Event → Flight C M → Type 0
+  Goes x es x' = Steps meaning sound g ks says carries meddles x es x'
+
+  abbrev Took : Flight C M → Event → Flight C M → Type 0
+  Took x e x' = Step meaning sound g ks says carries meddles x e x'
+
+  steps_live : (x x' : Flight C M) (calls es : List Event) → Goes x calls x' → Lived meaning sound g ks es x → Lived meaning sound g ks (calls ++ es) x'
+  steps_live x x' [] es lives.none life = life
+  steps_live x x' (e ∷ calls) es (lives.then {y = y} steps step) life = called (steps_live x y calls es steps life) step.call
+
+  steps_on : (x y z : Flight C M) (es calls : List Event) → Goes x es y → Goes y calls z → Goes x (calls ++ es) z
+  steps_on x y z es [] h lives.none = h
+  steps_on x y z es (e ∷ calls) h (lives.then {y = w} steps step) = lives.then (steps_on x y w es calls h steps) step
+
+  -- a call that leaves the carrier as it was
+  pub apart : (x x' : Flight C M) (e : Event) → Answered g ks (state_of meaning x) e (state_of meaning x') → x'.carrier ≡ x.carrier
+      → Exactly meaning says carries meddles x e x' → Took x e x'
+  apart x x' e step same exact = record { call = record { step = λ _. step; kept = λ s. subst sound (sym same) s }; exact = λ _. exact }
+
+  module _ (law : (c : C) → sound c → Lawful (meaning c)) where
+    goes_on : (x x' : Flight C M) (calls : List Event) → Goes x calls x' → GoesOn meaning sound g ks x calls x'
+    goes_on x x' calls steps es life =
+        let more = steps_live x x' calls es steps life in
+        (more, agreement_over_lem law g ks (calls ++ es) _ _ more)
+
+    pub executed : (d : Command) (a : Answer) (x x' : Flight C M) (buffer after : List ℕ) (calls : List Event) → Does d buffer a calls after → Goes x calls x'
+        → Executed meaning sound g ks says carries meddles x buffer d a x' after
+    executed d a x x' buffer after calls does steps = record { calls = calls; does = does; steps = steps; promise = goes_on x x' calls steps }
+
+    pub executed_once : (d d' : Command) (a : Answer) (x x' : Flight C M) (buffer : List ℕ) (e : Event) → d' ≡ d → Does d buffer a (e ∷ []) buffer → Took x e x'
+        → Executed meaning sound g ks says carries meddles x buffer d' a x' buffer
+    executed_once d d' a x x' buffer e same does step =
+        executed d' a x x' buffer buffer (e ∷ []) (subst (λ (z : Command). Does z buffer a (e ∷ []) buffer) (sym same) does) (lives.then lives.none step)
+
+    pub all_none : (x : Flight C M) (buffer : List ℕ) → ExecutedAll meaning sound g ks says carries meddles x buffer [] [] x buffer
+    all_none x buffer = record { calls = []; did = lists.none; steps = lives.none; promise = goes_on x x [] lives.none }
+
+    pub all_on : (ds : List Command) (answers : List Answer) (i : ℕ) (a : Answer) (d : Command) (x y z : Flight C M) (buffer between after : List ℕ) → i < length ds → i < length answers
+        → ExecutedAll meaning sound g ks says carries meddles x buffer (take i ds) (take i answers) y between
+        → Executed meaning sound g ks says carries meddles y between (get_or ds i d) a z after
+        → ExecutedAll meaning sound g ks says carries meddles x buffer (take (i + 1) ds) (take (i + 1) (set answers i a)) z after
+    all_on ds answers i a d x y z buffer between after h k before one =
+        let steps = steps_on x y z before.calls one.calls before.steps one.steps in
+        let did = lists.then (take i ds) (get_or ds i d) (take i answers) a before.calls one.calls between after before.did one.does in
+        record {
+          calls = one.calls ++ before.calls;
+          did = subst (λ (u : List Command). Did buffer u (take (i + 1) (set answers i a)) (one.calls ++ before.calls) after) (sym (take_more ds i d h))
+              (subst (λ (u : List Answer). Did buffer (take i ds ++ get_or ds i d ∷ []) u (one.calls ++ before.calls) after) (sym (take_more_set answers i a k)) did);
+          steps = steps;
+          promise = goes_on x z (one.calls ++ before.calls) steps;
+        }
+
+pub taken : (g : ℕ) (ks : List Kind) (s s₁ s₂ s₃ : State) (c o k c' o' k' : ℕ) (v : Told) → c' ≡ c → o' ≡ o → k' ≡ k
+    → Answered g ks s (collected c o k) s₁ → s₂ ≡ s₁ → Answered g ks s₂ (refused (put_back c' o' k') v) s₃ → ⊥
+taken g ks s s₁ s₂ s₃ c o k c' o' k' v p q r got same told_no =
+    let at_once : here c o k c o k ≡ true = and_from (eqb c c) _ (eq-eqb c c refl) (and_from (eqb o o) _ (eq-eqb o o refl) (eq-eqb k k refl)) in
+    let out : s₂.ledger.out c' o' k' ≡ true = (λ i. (same i).ledger.out (p i) (q i) (r i)) ∙ got.1.out c o k ∙ or_right (s.ledger.out c o k) (here c o k c o k) at_once in
+    none-some v (sym (cond-false (not (s₂.ledger.out c' o' k')) _ None (ap not out)) ∙ told_no.0)
+
+pub books_written : (c o k at sc so sk : ℕ) (buffer after : List ℕ) → sc ≡ c → so ≡ o → sk ≡ k
+    → Books c o k at buffer (Ok tt) (booked sc so sk at buffer after ∷ collected c o k ∷ []) after
+books_written c o k at sc so sk buffer after p q r =
+    subst (λ (e : Event). Books c o k at buffer (Ok tt) (e ∷ collected c o k ∷ []) after) (sym (λ i. booked (p i) (q i) (r i) at buffer after)) written
+
+pub books_no_room : (c o k at sc so sk bc bo bk : ℕ) (buffer after : List ℕ) (e : Fault) → sc ≡ c → so ≡ o → sk ≡ k → bc ≡ c → bo ≡ o → bk ≡ k → after ≡ buffer
+    → Books c o k at buffer (Err e) (returned bc bo bk ∷ refused (book sc so sk at buffer) (told e) ∷ collected c o k ∷ []) after
+books_no_room c o k at sc so sk bc bo bk buffer after e p q r p' q' r' same =
+    subst (λ (z : List ℕ). Books c o k at buffer (Err e) (returned bc bo bk ∷ refused (book sc so sk at buffer) (told e) ∷ collected c o k ∷ []) z) (sym same)
+    (subst (λ (es : List Event). Books c o k at buffer (Err e) es buffer)
+    (sym (λ i. returned (p' i) (q' i) (r' i) ∷ refused (book (p i) (q i) (r i) at buffer) (told e) ∷ collected c o k ∷ [])) no_room)
