@@ -1,14 +1,16 @@
 // What a carrier is.
 ghost use Rattle.std.specs.Prelude.{◌≡◌, ℕ, ◌≤◌, Option, Result, slice_index};
 ghost use Rattle.sets.specs.Sets.{labels};
-ghost use Rattle.agreement.specs.Carrying.{Fixed};
+ghost use Rattle.agreement.specs.Carrying.{Fixed, carry_causes, meddle_causes};
 ghost use Rattle.refusals.specs.declared.Fault.{Fault};
 ghost use Rattle.frames.specs.declared.notes.Note.{Note};
 ghost use Rattle.frames.specs.declared.notes.Frame.{Frame};
 ghost use Rattle.carriers.specs.declared.heard.Heard.{Heard};
 ghost use Rattle.carriers.specs.Calls.{Say, Carry, Meddle, Answers, Labelled};
+ghost use Rattle.carriers.specs.Judging.{Judged};
 
 use crate::heard::Heard;
+use crate::judge::{judge_index, judge_meddler};
 use agreement::LawfulCarrier;
 use frames::{Frame, Note};
 use refusals::Fault;
@@ -51,6 +53,27 @@ pub trait Carrier: LawfulCarrier {
         ensures step { Self.sound self.old → Meddle (Self.meaning self.old) c to result (Self.meaning self.new) × Self.sound self.new }
         ensures fixed { Fixed (Self.meaning self.old) (Self.meaning self.new) }
         ensures exact { meddles self.old c to frame result self.new };
+
+    // Why a carry at index k is refused, room aside; 7. So a flight, which tests the room by its own measure, asks the carrier for the rest.
+    fn judge_carry(&self, k: usize) -> Result<(), Fault>
+        ensures { Judged (carry_causes (Self.meaning self.now) k) result }
+    {
+        judge_index(self.waiting(), k)
+    }
+
+    // Why a meddle by c is refused, room aside; 1 of c, 1 of the craft that it meddles to, 9, 10.
+    fn judge_meddle(&self, c: u8, to: u8) -> Result<(), Fault>
+        ensures { Judged (meddle_causes (Self.meaning self.now) c to) result }
+    {
+        judge_meddler(
+            self.craft(),
+            self.most_astray(),
+            self.row(c),
+            self.astray(),
+            c,
+            to,
+        )
+    }
 
     // How many craft there are.
     fn craft(&self) -> u8
