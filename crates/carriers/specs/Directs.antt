@@ -9,8 +9,8 @@
 --   hearing_of      what carrying the frame at an index tells
 --   SaysDirect, MeddlesDirect   a say and a meddle, as of every carrier over a link service; a note that was said before changes nothing at all
 --   KeptTold        what is told stands as the last row of the listener's shelf; no other shelf changes, and nothing told changes none
---   TakenOn         the entry at an index is gone from the links, and what it tells is kept
---   CarriesDirect   a carry that is accepted takes an entry on; refused, it leaves all parts as they were
+--   TakenOn         none of the carrier's causes holds; the entry at an index is gone from the links, and what it tells is kept
+--   CarriesDirect   a carry that is accepted takes an entry on; refused, it tells the first of the carrier's causes and leaves all parts as they were
 --   Linked          the entry goes from one craft to another
 --   Truthful        a craft that is not astray sends only what it said, as its own frame
 --   Flows           among n craft, with these astray, h was heard and ws waits:
@@ -37,7 +37,7 @@ use Rattle.shelves.specs.Shelves.{heard_on, HeldAt}
 use Rattle.agreement.specs.Meanings.{Meaning, Fresh}
 use Rattle.carriers.specs.declared.heard.Heard.{Heard}
 use Rattle.carriers.specs.declared.direct.Direct.{Direct}
-use Rattle.carriers.specs.Parts.{Parts, parts, spare_of, own_frame, no_entry, SaysOn, SaidBefore, MeddlesOn, StartedOn}
+use Rattle.carriers.specs.Parts.{Parts, parts, spare_of, own_frame, no_entry, SaysOn, SaidBefore, carry_refusal, RefusesCarry, MeddlesOn, StartedOn}
 
 -- ---- what it means
 
@@ -93,6 +93,7 @@ KeptTold at None at' = at' ≡ at
 KeptTold at (Some h) at' = HeldAt at h.listener h.author h.note 0 true at'
 
 pub record TakenOn (n : ℕ) (p : Parts) (k : ℕ) (t : Option Heard) (p' : Parts) : Type 0 where
+  pub accepted : carry_refusal p k ≡ None
   pub entry : Entry
   pub taken : Taken p.links k entry p'.links
   pub answer : t ≡ hearing n (heard_on p.shelves) entry
@@ -101,7 +102,7 @@ pub record TakenOn (n : ℕ) (p : Parts) (k : ℕ) (t : Option Heard) (p' : Part
 
 abbrev pub CarriesDirect : {L : Type 0} → (L → links.Meaning) → Direct L → ℕ → Result (Option Heard) Fault → Direct L → Type 0
 CarriesDirect m d k (Ok t) d' = TakenOn d.complete.chart.n (parts_of m d) k t (parts_of m d') × (d'.complete ≡ d.complete)
-CarriesDirect m d k (Err e) d' = (parts_of m d' ≡ parts_of m d) × (d'.complete ≡ d.complete)
+CarriesDirect m d k (Err e) d' = RefusesCarry (parts_of m d) k e (parts_of m d') × (d'.complete ≡ d.complete)
 
 -- ---- what fits
 

@@ -1,20 +1,22 @@
 -- What a carrier over a link service is made of, and what its calls do to these parts. Assumes nothing.
---   Parts        what the link service means, each craft's shelf, and the craft astray
---   parts        the parts of a store, with these craft astray
---   spare_of     the smaller of the link service's spare and the fewest free rows on a shelf
---   own_frame    the frame by which an author says a note
---   no_entry     what stands where no entry waits
---   Spoken       a new note is put to all neighbours of its author, ascending, and the empty set is held for it on the author's shelf
---   SaysOn       a say: a note that was said before changes nothing, another is spoken; refused by the carrier's causes, or by the link service's put
---   SaidBefore   a say of a note that was said before leaves the store itself as it was
---   MeddledTo    the frame is put from c to one craft, and c is astray
---   MeddlesOn    a meddle: refused by the carrier's causes, or by the link service's put
---   StartedOn    a link service just started, with empty shelves and nobody astray
---   StartsOn     a start, refused by the link service alone
-use Rattle.std.specs.Prelude.{◌≡◌, ℕ, min, true, false, ◌⊎◌, List, [], Some, None, Ok, Err, Result, slice_index}
+--   Parts           what the link service means, each craft's shelf, and the craft astray
+--   parts           the parts of a store, with these craft astray
+--   spare_of        the smaller of the link service's spare and the fewest free rows on a shelf
+--   own_frame       the frame by which an author says a note
+--   no_entry        what stands where no entry waits
+--   Spoken          a new note is put to all neighbours of its author, ascending, and the empty set is held for it on the author's shelf
+--   SaysOn          a say: a note that was said before changes nothing, another is spoken; refused by the carrier's causes, or by the link service's put
+--   SaidBefore      a say of a note that was said before leaves the store itself as it was
+--   carry_refusal   of the carrier's causes against a carry, the first that holds
+--   RefusesCarry    a carry refused by it, with all parts as they were
+--   MeddledTo       the frame is put from c to one craft, and c is astray
+--   MeddlesOn       a meddle: refused by the carrier's causes, or by the link service's put
+--   StartedOn       a link service just started, with empty shelves and nobody astray
+--   StartsOn        a start, refused by the link service alone
+use Rattle.std.specs.Prelude.{◌≡◌, ℕ, min, true, false, ◌⊎◌, List, [], length, Some, None, Ok, Err, Option, Result, slice_index}
 use Rattle.sets.specs.Sets.{only, adding}
 use Rattle.refusals.specs.declared.Fault.{Fault}
-use Rattle.refusals.specs.Refusals.{refusal, told}
+use Rattle.refusals.specs.Refusals.{Told, refusal, told}
 use Rattle.frames.specs.declared.notes.Note.{Note}
 use Rattle.frames.specs.declared.notes.Frame.{Frame}
 use Rattle.frames.specs.declared.notes.Step.TheVariants.{Send}
@@ -28,7 +30,7 @@ use Rattle.shelves.specs.declared.kinds.Shelf.{Shelf}
 use Rattle.shelves.specs.Lengths.{shelf_length}
 use Rattle.shelves.specs.Shelves.{rows_at, heard_on, fewest, HeldAt}
 use Rattle.carriers.specs.declared.store.Store.{Store}
-use Rattle.carriers.specs.Judging.{saying_causes, meddling_causes}
+use Rattle.carriers.specs.Judging.{saying_causes, carrying_causes, meddling_causes}
 
 pub record Parts : Type 0 where
   pub links : links.Meaning
@@ -67,6 +69,14 @@ SaysOn c p a x (Err e) p' =
 abbrev pub SaidBefore : {L : Type 0} → Store L → ℕ → Note → Result Unit Fault → Store L → Type 0
 SaidBefore s a x (Ok _) s' = heard_on s.table.at a a x ≡ true → s' ≡ s
 SaidBefore s a x (Err e) s' = Unit {0}
+
+-- ---- carry
+
+abbrev pub carry_refusal : Parts → ℕ → Option Told
+carry_refusal p k = refusal (carrying_causes (length p.links.waiting) (spare_of p) k)
+
+abbrev pub RefusesCarry : Parts → ℕ → Fault → Parts → Type 0
+RefusesCarry p k e p' = (p' ≡ p) × (carry_refusal p k ≡ Some (told e))
 
 -- ---- meddle
 

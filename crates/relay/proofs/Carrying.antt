@@ -28,7 +28,7 @@ use Rattle.pathsets.specs.Shelving.{stepped, TakesAt}
 use Rattle.pathsets.proofs.ShelfSteps.{stepped_free, told-linked}
 use Rattle.relaying.specs.States.{Carries, stepped_at, listener, frame_of}
 use Rattle.carriers.specs.declared.heard.Heard.{Heard}
-use Rattle.carriers.specs.Parts.{no_entry, Parts, spare_of}
+use Rattle.carriers.specs.Parts.{no_entry, Parts, spare_of, carry_refusal}
 use Rattle.carriers.specs.Puts.{puts, less_spare, taken-below}
 use Rattle.relay.specs.Passing.{PassesOn, passed_frame}
 use Rattle.relay.specs.Relays.{setting, state, telling, heard_by, CarriedOn, Stopped}
@@ -106,16 +106,18 @@ module _ (c : PassedChart) (p : Parts) (k : ℕ) (e : Entry) (w : links.Meaning)
           (λ ne. omega (arith, take.spare, (on.1 ne).spare))
           (cases_eq (told_by o) 0)
 
-      pub carried_on : (u : Unit {0}) → PassesOn w e o (Ok u) w' → (t : Option Heard) → t ≡ telling c p e → CarriedOn c p k e t after
-      carried_on u on t answer = record {
+      pub carried_on : carry_refusal p k ≡ None → (u : Unit {0}) → PassesOn w e o (Ok u) w' → (t : Option Heard) → t ≡ telling c p e → CarriedOn c p k e t after
+      carried_on ok u on t answer = record {
+        accepted = ok;
         carries = carries_with (waits u on);
         answer = answer;
         kept = links_kept u on;
         spare = less_spare _ _ _ _ (links_spare u on) takes.free;
       }
 
-      pub stopped : (x : Fault) → PassesOn w e o (Err x) w' → Stopped c p k x after
-      stopped x (some, same, why) = record {
+      pub stopped : carry_refusal p k ≡ None → (x : Fault) → PassesOn w e o (Err x) w' → Stopped c p k x after
+      stopped ok x (some, same, why) = record {
+        accepted = ok;
         entry = e;
         taken = subst (Taken p.links k e) (sym same) take;
         own = rows_are;

@@ -7,9 +7,9 @@
 --   telling         what carrying an entry tells: its note, if the receiver's step ends in hearing
 --   telling_of      what carrying the frame at an index tells
 --   SaysRelay, MeddlesRelay   a say and a meddle, as of every carrier over a link service
---   CarriedOn       an accepted carry: the entry e is taken, its receiver takes the step, and what goes on is put; the link service keeps its chart and memory
---   Stopped         the entry is taken and its receiver took the step, but the link service refuses what goes on; where the relay is sound this cannot be
---   CarriesRelay    a carry: accepted, or refused with nothing changed, or stopped
+--   CarriedOn       an accepted carry: none of the carrier's causes holds, the entry e is taken, its receiver takes the step, and what goes on is put; the link service keeps its chart and memory
+--   Stopped         none of the carrier's causes holds, the entry is taken and its receiver took the step, but the link service refuses what goes on; where the relay is sound this cannot be
+--   CarriesRelay    a carry: accepted; or refused by the first of the carrier's causes, with nothing changed; or stopped
 --   Fitting         the link service has this chart, and the state is one that says, carries and meddles led to from a fresh one
 --   Sound           the same of a relay
 --   Opened          a relay just opened on a chart that passed: its shelves are empty, and its links started with nothing waiting
@@ -31,7 +31,7 @@ use Rattle.relaying.specs.Laws.{Reached}
 use Rattle.relaying.specs.Toil.{toil}
 use Rattle.agreement.specs.Meanings.{Meaning, Fresh}
 use Rattle.carriers.specs.declared.heard.Heard.{Heard}
-use Rattle.carriers.specs.Parts.{no_entry, Parts, spare_of, SaysOn, MeddlesOn, StartedOn}
+use Rattle.carriers.specs.Parts.{no_entry, Parts, spare_of, SaysOn, carry_refusal, RefusesCarry, MeddlesOn, StartedOn}
 use Rattle.bases.specs.Parts.{parts}
 use Rattle.relay.specs.declared.kinds.Relay.{Relay}
 
@@ -79,12 +79,14 @@ MeddlesRelay m r c to frame o r' =
     MeddlesOn r.passed.chart r.passed.f (parts m r.base) c to frame o (parts m r'.base) × (r'.passed ≡ r.passed)
 
 pub record CarriedOn (c : PassedChart) (p : Parts) (k : ℕ) (e : Entry) (t : Option Heard) (p' : Parts) : Type 0 where
+  pub accepted : carry_refusal p k ≡ None
   pub carries : Carries (setting c) (state p) k e (state p')
   pub answer : t ≡ telling c p e
   pub kept : Kept p.links p'.links
   pub spare : spare_of p ≤ spare_of p' + 1
 
 pub record Stopped (c : PassedChart) (p : Parts) (k : ℕ) (x : Fault) (p' : Parts) : Type 0 where
+  pub accepted : carry_refusal p k ≡ None
   pub entry : Entry
   pub taken : Taken p.links k entry p'.links
   pub own : rows_at p'.shelves entry.to ≡ (stepped_at (setting c) (state p) entry).rows
@@ -95,7 +97,7 @@ pub record Stopped (c : PassedChart) (p : Parts) (k : ℕ) (x : Fault) (p' : Par
 abbrev pub CarriesRelay : {L : Type 0} → (L → links.Meaning) → Relay L → ℕ → Result (Option Heard) Fault → Relay L → Type 0
 CarriesRelay m r k (Ok t) r' = ((e : Entry) × CarriedOn r.passed (parts m r.base) k e t (parts m r'.base)) × (r'.passed ≡ r.passed)
 CarriesRelay m r k (Err e) r' =
-    ((parts m r'.base ≡ parts m r.base) ⊎ Stopped r.passed (parts m r.base) k e (parts m r'.base)) × (r'.passed ≡ r.passed)
+    (RefusesCarry (parts m r.base) k e (parts m r'.base) ⊎ Stopped r.passed (parts m r.base) k e (parts m r'.base)) × (r'.passed ≡ r.passed)
 
 -- ---- what ties the parts to one another
 

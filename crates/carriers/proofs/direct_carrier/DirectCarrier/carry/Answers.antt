@@ -24,7 +24,7 @@ returns-then-not-is_straight g c =
       answer = told_at d.complete.chart.n (heard_on d.store.table.at) (m d.store.links) (m c.take.new.self) k e _ take tells;
       labels = tt;
       fixed = record { n = refl; f = refl; chart = refl };
-      exact = (record { entry = e; taken = take; answer = sym tells; kept = refl; astray = refl }, refl);
+      exact = (record { accepted = ok; entry = e; taken = take; answer = sym tells; kept = refl; astray = refl }, refl);
     }
 
 pub returns-then-covers : goal.returns-then-covers
@@ -42,7 +42,7 @@ returns-then-covers g c =
       answer = told_at d.complete.chart.n (heard_on d.store.table.at) (m d.store.links) (m c.take.new.self) k e _ take tells;
       labels = tt;
       fixed = record { n = refl; f = refl; chart = refl };
-      exact = (record { entry = e; taken = take; answer = sym tells; kept = refl; astray = refl }, refl);
+      exact = (record { accepted = ok; entry = e; taken = take; answer = sym tells; kept = refl; astray = refl }, refl);
     }
 
 pub returns : goal.returns
@@ -66,5 +66,5 @@ returns g c =
       answer = told_at d.complete.chart.n (heard_on d.store.table.at) (m d.store.links) (m c.take.new.self) k e _ take tells;
       labels = (st.to, st.from, st.sound);
       fixed = record { n = refl; f = refl; chart = refl };
-      exact = (record { entry = e; taken = take; answer = sym tells; kept = held; astray = refl }, refl);
+      exact = (record { accepted = ok; entry = e; taken = take; answer = sym tells; kept = held; astray = refl }, refl);
     }

@@ -45,7 +45,7 @@ returns-in_err-pass_on g c =
       answer = error (Answers (telling_of m d k)) tt;
       labels = error (Labelled d.passed.chart.n) tt;
       fixed = record { n = refl; f = refl; chart = refl };
-      exact = error (λ r. CarriesRelay m d k r d') (inr (stopped d.passed p k e w at o c.row.result _ is free take takes w' x.0 refused), refl);
+      exact = error (λ r. CarriesRelay m d k r d') (inr (stopped d.passed p k e w at o c.row.result _ is free take takes w' ok x.0 refused), refl);
     }
 
 pub returns-then-not-heard : goal.returns-then-not-heard
@@ -69,7 +69,7 @@ returns-then-not-heard g c =
     let on = c.in_ok-pass_on.ensures in
     let quiet = ap is_heard (sym (out_is d.passed p k e w at o c.row.result _ is free take takes)) ∙ sym c.heard.ensures ∙ c.if-not-heard.true in
     let answer = sym (quiet_told d.passed p e quiet) in
-    let co : CarriedOn d.passed p k e None p' = carried_on d.passed p k e w at o c.row.result _ is free take takes w' tt on None answer in
+    let co : CarriedOn d.passed p k e None p' = carried_on d.passed p k e w at o c.row.result _ is free take takes w' ok tt on None answer in
     record {
       step = λ s. ((ok, carry_quiet d.passed p s k e None p' co quiet), fits_on d.passed p s k e None p' co);
       answer = told_is d.passed p k e w None take answer;
@@ -99,7 +99,7 @@ returns g c =
     let on = c.in_ok-pass_on.ensures in
     let hears = ap is_heard (sym (out_is d.passed p k e w at o c.row.result _ is free take takes)) ∙ sym c.heard.ensures ∙ c.if-not-heard.false in
     let answer = sym (heard-told d.passed p e hears) in
-    let co : CarriedOn d.passed p k e (Some (heard_by e)) p' = carried_on d.passed p k e w at o c.row.result _ is free take takes w' tt on (Some (heard_by e)) answer in
+    let co : CarriedOn d.passed p k e (Some (heard_by e)) p' = carried_on d.passed p k e w at o c.row.result _ is free take takes w' ok tt on (Some (heard_by e)) answer in
     let fit = heard-fits (listener (setting d.passed) e.to) e.from e.frame (rows_at d.base.store.table.at e.to) hears in
     record {
       step = λ s. ((ok, carry_hears d.passed p s k e (Some (heard_by e)) p' co hears), fits_on d.passed p s k e (Some (heard_by e)) p' co);
