@@ -7,6 +7,7 @@ use crate::carrier::Carrier;
 use crate::direct::Direct;
 use crate::heard::Heard;
 use crate::judge::judge_carry;
+use crate::opened_carrier::OpenedCarrier;
 use crate::store::Store;
 use agreement::LawfulCarrier;
 use cuts::CompleteChart;
@@ -128,5 +129,17 @@ impl<L: LinkService> Carrier for Direct<L> {
 
     fn row(&self, craft: u8) -> CraftSet {
         self.complete.chart.row(craft)
+    }
+}
+
+impl<L: LinkService + Drop> OpenedCarrier for Direct<L> {
+    // a link service and a chart
+    type From = (L, CompleteChart);
+
+    ghost opens = { λ from r. Opens L.LinkService.meaning from.0 from.1 r };
+
+    fn open_from(from: Self::From) -> Result<Direct<L>, Fault> {
+        let (links, chart) = from;
+        Direct::open(links, chart)
     }
 }

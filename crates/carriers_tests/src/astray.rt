@@ -23,6 +23,7 @@ fn refuses_says<C: Carrier>(rt: &impl Abort, c: &mut C) {
     assert_eq!(rt; c.say(0, bad).err(), refused(Refusal::Number(4)));
     assert!(rt; !c.heard(0, 0, &bad));
     assert_eq!(rt; c.carry(0).err(), refused(Refusal::Index(0)));
+    assert_eq!(rt; c.judge_carry(0).err(), refused(Refusal::Index(0)));
     assert_eq!(rt; c.waiting(), 0);
 }
 
@@ -40,6 +41,8 @@ fn refuses_meddles<C: Carrier>(rt: &impl Abort, c: &mut C) {
         c.meddle(3, 3, frame(0, 1)).err(),
         refused(Refusal::NoLink(3))
     );
+    assert_eq!(rt; c.judge_meddle(3, 3).err(), refused(Refusal::NoLink(3)));
+    assert!(rt; c.judge_meddle(3, 2).is_ok());
     assert_eq!(rt; c.astray(), 0);
     assert_eq!(rt; c.waiting(), 0);
 }

@@ -10,4 +10,6 @@ mod both;
 #[cfg(test)]
 mod four;
 #[cfg(test)]
+mod opening;
+#[cfg(test)]
 mod sizes;

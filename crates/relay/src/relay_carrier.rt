@@ -9,7 +9,7 @@ ghost use Rattle.relay.specs.Steps;
 use crate::kinds::Relay;
 use agreement::LawfulCarrier;
 use bases::Base;
-use carriers::{Carrier, Heard, judge_carry};
+use carriers::{Carrier, Heard, OpenedCarrier, judge_carry};
 use cuts::PassedChart;
 use frames::{Frame, Note};
 use links::{Entry, LinkService};
@@ -138,5 +138,17 @@ impl<L: LinkService> Carrier for Relay<L> {
 
     fn row(&self, craft: u8) -> CraftSet {
         self.passed.chart.row(craft)
+    }
+}
+
+impl<L: LinkService + Drop> OpenedCarrier for Relay<L> {
+    // a link service and a chart
+    type From = (L, PassedChart);
+
+    ghost opens = { λ from r. Opens L.LinkService.meaning from.0 from.1 r };
+
+    fn open_from(from: Self::From) -> Result<Relay<L>, Fault> {
+        let (links, chart) = from;
+        Relay::open(links, chart)
     }
 }
