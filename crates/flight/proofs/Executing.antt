@@ -6,10 +6,11 @@
 --   executed, executed_once
 --                   a command, and one that is one call
 --   all_none, all_on   no commands, and one command more
+--   flown           a flight that was opened just now, and executed commands
 --   taken           a slip that was just collected is taken back
 --   books_written, books_no_room
 --                   the calls of a booking, by the labels of its slip
-use Rattle.std.proofs.Common.{◌≡◌, ℕ, ◌+◌, ◌<◌, Bool, true, false, cond, not, ◌&&◌, eqb, List, [], ◌∷◌, ◌++◌, length, get_or, set, take, append_assoc, Some, None, Ok, Err, Option, Result, sym, refl, ap, subst, ◌∙◌}
+use Rattle.std.proofs.Common.{◌≡◌, ℕ, ◌+◌, ◌<◌, true, not, eqb, List, [], ◌∷◌, ◌++◌, length, get_or, set, take, append-nil, min, drop, None, Ok, Err, Option, Result, sym, refl, ap, subst, ◌∙◌}
 use Rattle.std.proofs.lemmas.Bool.{cond-false, and_from, eq-eqb, or_right}
 use Rattle.std.proofs.lemmas.List.{take_more, take_more_set}
 use Rattle.std.proofs.lemmas.Option.{none-some}
@@ -18,8 +19,9 @@ use Rattle.refusals.specs.Refusals.{Told, told}
 use Rattle.matter.specs.Layouts.{Kind}
 use Rattle.frames.specs.declared.notes.Note.{Note}
 use Rattle.frames.specs.declared.notes.Frame.{Frame}
-use Rattle.agreement.specs.Meanings.{Meaning, Lawful}
-use Rattle.agreement.specs.Flights.{State, Event, collected, booked, returned, refused, Call, collect, book, put_back, here, Answered}
+use Rattle.agreement.specs.Meanings.{Meaning, Lawful, Fresh}
+use Rattle.agreement.specs.Flights.{State, Event, collected, booked, returned, refused, book, put_back, here, Answered}
+use Rattle.agreement.specs.Agreement.{Agrees}
 use Rattle.agreement.specs.Lives.{called}
 use Rattle.agreement.proofs.Agrees.{agreement_over_lem}
 use Rattle.carriers.specs.declared.heard.Heard.{Heard}
@@ -29,8 +31,8 @@ use Rattle.flight.specs.declared.lists.Answer.{Answer}
 use Rattle.flight.specs.Ledgers.{state_of}
 use Rattle.flight.specs.Exact.{Exactly}
 use Rattle.flight.specs.Lives as lives
-use Rattle.flight.specs.Lives.{Lived, Step, Steps}
-use Rattle.flight.specs.Lists.{Books, written, no_room, Does, Did, GoesOn, Executed, ExecutedAll}
+use Rattle.flight.specs.Lives.{Lived, Opens, Step, Steps}
+use Rattle.flight.specs.Lists.{Books, written, no_room, Does, Did, GoesOn, Executed, ExecutedAll, Flown}
 use Rattle.flight.specs.Lists as lists
 
 module _ {C M : Type 0} (meaning : C → Meaning) (sound : C → Type 0) (g : ℕ) (ks : List Kind) (says : C → ℕ → Note → Result Unit Fault → C → Type 0)
@@ -86,6 +88,32 @@ module _ {C M : Type 0} (meaning : C → Meaning) (sound : C → Type 0) (g : �
           steps = steps;
           promise = goes_on x z (one.calls ++ before.calls) steps;
         }
+
+-- a flight over a carrier that was opened just now has no life before
+module _ {C M F : Type 0} (meaning : C → Meaning) (sound : C → Type 0) (g : ℕ) (ks : List Kind) (says : C → ℕ → Note → Result Unit Fault → C → Type 0)
+    (carries : C → ℕ → Result (Option Heard) Fault → C → Type 0) (meddles : C → ℕ → ℕ → Frame → Result Unit Fault → C → Type 0) (opens : F → Result C Fault → Type 0) where
+  pub flown : (from : F) (buffer after : List ℕ) (ds : List Command) (before answers : List Answer) (carrier : C) (start x : Flight C M) (n : ℕ)
+      → opens from (Ok carrier) → Opens meaning sound g ks carrier start → sound carrier → Fresh (meaning carrier) → n ≡ min (length ds) (length before)
+      → ExecutedAll meaning sound g ks says carries meddles start buffer (take n ds) (take n answers) x after → drop n answers ≡ drop n before
+      → Flown meaning sound g ks says carries meddles opens from buffer ds before answers x after
+  flown from buffer after ds before answers carrier start x n opened begun kept fresh count e rest =
+      let life = e.promise [] (begun.begins kept fresh) in
+      let whole = append-nil e.calls in
+      record {
+        carrier = carrier;
+        opened = opened;
+        start = start;
+        begun = begun;
+        executed = record {
+          calls = e.calls;
+          did = subst (λ (i : ℕ). Did buffer (take i ds) (take i answers) e.calls after) count e.did;
+          steps = e.steps;
+          promise = e.promise;
+        };
+        rest = subst (λ (i : ℕ). drop i answers ≡ drop i before) count rest;
+        lived = subst (λ (es : List Event). Lived meaning sound g ks es x) whole life.0;
+        agrees = subst (λ (es : List Event). Agrees g ks es (state_of meaning x)) whole life.1;
+      }
 
 pub taken : (g : ℕ) (ks : List Kind) (s s₁ s₂ s₃ : State) (c o k c' o' k' : ℕ) (v : Told) → c' ≡ c → o' ≡ o → k' ≡ k
     → Answered g ks s (collected c o k) s₁ → s₂ ≡ s₁ → Answered g ks s₂ (refused (put_back c' o' k') v) s₃ → ⊥

@@ -1,7 +1,7 @@
 -- An accepted carry by which somebody hears. Assumes nothing.
 --   may_hear       who hears may speak
 --   hearing_done   the carry is answered as it is to be
-use Rattle.std.proofs.Common.{◌≡◌, ℕ, ◌+◌, ◌<◌, ◌≤◌, true, cond, List, get_or, Ok, Result, Option, sym, refl, ap, subst, ◌∙◌, arith}
+use Rattle.std.proofs.Common.{◌≡◌, ℕ, ◌<◌, true, cond, List, get_or, Ok, Result, Option, sym, ap, subst, ◌∙◌}
 use Rattle.sets.specs.Sets.{has}
 use Rattle.refusals.specs.declared.Fault.{Fault}
 use Rattle.matter.specs.Layouts.{Kind}

@@ -2,13 +2,13 @@
 --   same_turn    a turn looks at n, f and the votes alone
 --   may_order    who ordered may speak
 --   order_done   the order is answered as it is to be
-use Rattle.std.proofs.Common.{◌≡◌, ℕ, ◌+◌, ◌<◌, ◌≤◌, true, cond, List, get_or, Ok, Result, Option, sym, refl, ap, subst, ◌∙◌, arith}
+use Rattle.std.proofs.Common.{◌≡◌, ℕ, ◌<◌, true, cond, List, get_or, Result, Option, sym, ap, subst, ◌∙◌}
 use Rattle.sets.specs.Sets.{has}
 use Rattle.refusals.specs.declared.Fault.{Fault}
 use Rattle.matter.specs.Layouts.{Kind}
 use Rattle.frames.specs.declared.notes.Step.TheVariants.{Send}
 use Rattle.frames.specs.declared.notes.Note.{Note}
-use Rattle.frames.specs.Notes.{sound, note, last_number}
+use Rattle.frames.specs.Notes.{sound, note}
 use Rattle.agreement.specs.Meanings.{Meaning}
 use Rattle.agreement.specs.Carrying.{Fixed, Said}
 use Rattle.agreement.specs.Votes.{Turn, hear, notes_said}

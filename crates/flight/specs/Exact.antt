@@ -12,7 +12,7 @@ use Rattle.frames.specs.declared.notes.Note.{Note}
 use Rattle.frames.specs.declared.notes.Frame.{Frame}
 use Rattle.frames.specs.Notes.{note}
 use Rattle.agreement.specs.Meanings.{Meaning}
-use Rattle.agreement.specs.Votes.{Turn, notes_said}
+use Rattle.agreement.specs.Votes.{notes_said}
 use Rattle.agreement.specs.Flights.{State, Event, ordered, moved, heard, meddled, collected, booked, returned, refused, turn}
 use Rattle.carriers.specs.declared.heard.Heard.{Heard}
 use Rattle.flight.specs.declared.flight.Flight.{Flight}

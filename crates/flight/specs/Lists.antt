@@ -6,9 +6,10 @@
 --   GoesOn      calls that lead from a flight to another go on with every life of the first, and then the craft agree
 --   Executed    a command, what came of it, and what it leaves in the flight and the buffer
 --   ExecutedAll the same of a list of commands
---   Flown       of a flight that was opened just now
---   Flies       a flight is opened and flies; or its opening is refused, and nothing is done
-use Rattle.std.specs.Prelude.{◌≡◌, ℕ, List, [], ◌∷◌, ◌++◌, Ok, Err, Option, Result}
+--   Flown       a carrier was opened, a flight over it, and that executed as many commands as there is room for answers; these calls are all its life,
+--               and the craft agree: nothing is assumed of the carrier, since opening it says what it is
+--   Flies       so; or the opening is refused, and nothing is done
+use Rattle.std.specs.Prelude.{◌≡◌, ℕ, List, [], ◌∷◌, ◌++◌, length, min, take, drop, Ok, Err, Option, Result}
 use Rattle.refusals.specs.declared.Fault.{Fault}
 use Rattle.refusals.specs.Refusals.{told}
 use Rattle.matter.specs.Layouts.{Kind}
@@ -72,3 +73,18 @@ module _ {C M : Type 0} (meaning : C → Meaning) (sound : C → Type 0) (g : �
       pub did : Did buffer ds answers calls after
       pub steps : Steps meaning sound g ks says carries meddles x calls x'
       pub promise : GoesOn x calls x'
+
+    pub record Flown {F : Type 0} (opens : F → Result C Fault → Type 0) (from : F) (buffer : List ℕ) (ds : List Command) (before answers : List Answer)
+        (x : Flight C M) (after : List ℕ) : Type 0 where
+      pub carrier : C
+      pub opened : opens from (Ok carrier)
+      pub start : Flight C M
+      pub begun : Opens meaning sound g ks carrier start
+      pub executed : ExecutedAll start buffer (take (min (length ds) (length before)) ds) (take (min (length ds) (length before)) answers) x after
+      pub rest : drop (min (length ds) (length before)) answers ≡ drop (min (length ds) (length before)) before
+      pub lived : Lived meaning sound g ks executed.calls x
+      pub agrees : Agrees g ks executed.calls (state_of meaning x)
+
+    abbrev pub Flies : {F : Type 0} → (F → Result C Fault → Type 0) → F → List ℕ → List Command → List Answer → Result (Flight C M) Fault → List Answer → List ℕ → Type 0
+    Flies opens from buffer ds before (Ok x) answers after = Flown opens from buffer ds before answers x after
+    Flies opens from buffer ds before (Err e) answers after = opens from (Err e) × (answers ≡ before) × (after ≡ buffer)

@@ -12,7 +12,7 @@ use carriers::Carrier;
 use frames::{Frame, LAST_NUMBER};
 use matter::Matter;
 use refusals::{Fault, Layer, Refusal};
-use sets::{contains, count_others};
+use sets::contains;
 
 // Whether a word is one of this matter; 11.
 fn judge_word<M: Matter + Drop>(word: u64) -> Result<(), Fault>
@@ -53,34 +53,19 @@ impl<C: Carrier, M: Matter + Drop> Flight<C, M> {
         judge_room(self.carrier.spare())
     }
 
-    // Whether a carry is refused; 7, 8.
+    // Whether a carry is refused; what the carrier refuses, room aside (7), and 8.
     pub(crate) fn judge_carry(&self, index: usize) -> Result<(), Fault>
         ensures { Judged (causes M.kinds (state_of C.meaning self.now) (carry index)) result }
     {
-        let waiting = self.carrier.waiting();
-        if index >= waiting {
-            return Err(Layer::Carriers.refuses(Refusal::Index(waiting)));
-        }
+        self.carrier.judge_carry(index)?;
         judge_room(self.carrier.spare())
     }
 
-    // Whether a meddle is refused; 1 of c, 1 of the craft that it meddles to, 9, 10, 8.
+    // Whether a meddle is refused; what the carrier refuses, room aside (1, 1, 9, 10), and 8.
     pub(crate) fn judge_meddle(&self, c: u8, to: u8, frame: &Frame) -> Result<(), Fault>
         ensures { Judged (causes M.kinds (state_of C.meaning self.now) (meddle c to frame.now)) result }
     {
-        let n = self.carrier.craft();
-        if c >= n {
-            return Err(Layer::Carriers.refuses(Refusal::Label(c)));
-        }
-        if to >= n {
-            return Err(Layer::Carriers.refuses(Refusal::Label(to)));
-        }
-        if !contains(self.carrier.row(c), to) {
-            return Err(Layer::Carriers.refuses(Refusal::NoLink(c)));
-        }
-        if count_others(self.carrier.astray(), c) >= u32::from(self.carrier.most_astray()) {
-            return Err(Layer::Carriers.refuses(Refusal::Astray(c)));
-        }
+        self.carrier.judge_meddle(c, to)?;
         judge_room(self.carrier.spare())
     }
 }

@@ -13,6 +13,6 @@ pub mod steps;
 pub mod voting;
 
 pub use flight::{Flight, Hearing};
-pub use flying::execute_all;
+pub use flying::{execute_all, fly};
 pub use lists::{Answer, Command};
 pub use slips::Slip;
