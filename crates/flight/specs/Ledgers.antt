@@ -1,7 +1,7 @@
 -- A flight's state, and its calls by what they answer. Assumes nothing.
 --   ledger              what a flight keeps beside its carrier
 --   ledger_of, state_of a flight's ledger, and its state
---   room_causes         why a call that needs room is refused: fewer than three are spare (8)
+--   room_causes         why a call that needs room is refused: less is spare than it needs (8)
 --   order_event, carry_event, meddle_event
 --                       a call with its answer
 --   Calls               a call, and what it leaves
@@ -12,7 +12,7 @@ use Rattle.refusals.specs.declared.Fault.{Fault}
 use Rattle.refusals.specs.Refusals.{Cause, cause, told}
 use Rattle.frames.specs.declared.notes.Frame.{Frame}
 use Rattle.agreement.specs.Meanings.{Meaning}
-use Rattle.agreement.specs.Flights.{State, Ledger, Event, ordered, moved, heard, meddled, refused, order, carry, meddle}
+use Rattle.agreement.specs.Flights.{State, Ledger, Event, ordered, moved, heard, meddled, refused, order, carry, meddle, least_spare}
 use Rattle.agreement.specs.Lives.{state, Called}
 use Rattle.votes.specs.declared.table.Table.{Table}
 use Rattle.votes.specs.Places.{is_out, is_booked}
@@ -37,7 +37,7 @@ abbrev pub state_of : {C M : Type 0} → (C → Meaning) → Flight C M → Stat
 state_of meaning x = state (meaning x.carrier) (ledger_of x)
 
 abbrev pub room_causes : ℕ → List Cause
-room_causes spare = cause 4 8 (spare ∷ []) (nat_lt spare 3) ∷ []
+room_causes spare = cause 4 8 (spare ∷ []) (nat_lt spare least_spare) ∷ []
 
 abbrev pub order_event : ℕ → ℕ → ℕ → Result (Option Delivery) Fault → Event
 order_event c k w (Ok d) = ordered c k w (delivery d)

@@ -22,11 +22,14 @@ fn judge_word<M: Matter + Drop>(word: u64) -> Result<(), Fault>
     Ok(())
 }
 
-// Whether three are spare; 8.
+/// What has to be spare for an order, a carry or a meddle: room for what the call itself puts, for an Echo and for a Ready.
+pub const LEAST_SPARE: usize = 3;
+
+// Whether so much is spare; 8.
 fn judge_room(spare: usize) -> Result<(), Fault>
     ensures { Judged (room_causes spare) result }
 {
-    if spare < 3 {
+    if spare < LEAST_SPARE {
         return Err(Layer::Flight.refuses(Refusal::Spare(spare)));
     }
     Ok(())

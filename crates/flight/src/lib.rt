@@ -14,5 +14,6 @@ pub mod voting;
 
 pub use flight::{Flight, Hearing};
 pub use flying::{execute_all, fly};
+pub use judging::LEAST_SPARE;
 pub use lists::{Answer, Command};
 pub use slips::Slip;
