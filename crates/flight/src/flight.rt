@@ -31,8 +31,8 @@ pub struct Flight<C, M> {
 }
 
 impl<C: Carrier, M: Matter + Drop> Flight<C, M> {
-    ghost use Rattle.std.specs.Prelude.{◌≡◌};
-    ghost use Rattle.matter.specs.Layouts.{word_of};
+    ghost use Rattle.std.specs.Prelude.{◌≡◌, None};
+    ghost use Rattle.matter.specs.Layouts.{word_of, word_refusal};
     ghost use Rattle.agreement.specs.Flights.{Answered};
     ghost use Rattle.flight.specs.Ledgers.{state_of, order_event, carry_event, meddle_event, Calls};
     ghost use Rattle.flight.specs.Exact.{Exactly};
@@ -76,14 +76,18 @@ impl<C: Carrier, M: Matter + Drop> Flight<C, M> {
         self.step_order(craft, number, word)
     }
 
-    /// The craft orders matter under a number; 1, 5, 6, 8.
+    /// The craft orders matter under a number; 1, 5, 6, 8, and never 11, since the word of matter is a word of its kind.
     pub fn order(&mut self, craft: u8, number: u8, matter: &M) -> Result<Option<Delivery>, Fault>
-        ensures call { Calls C.meaning C.sound C.G M.kinds
-            self.old (order_event craft number (word_of (M.kind matter.now) (M.fields matter.now)) result) self.new }
-        ensures exact { C.sound self.old.carrier → Exactly C.meaning C.says C.carries C.meddles
-            self.old (order_event craft number (word_of (M.kind matter.now) (M.fields matter.now)) result) self.new }
-        ensures promise { Promises C.meaning C.sound C.G M.kinds
-            self.old (order_event craft number (word_of (M.kind matter.now) (M.fields matter.now)) result) self.new }
+        ensures call { let word = word_of (M.kind matter.now) (M.fields matter.now) in
+            Calls C.meaning C.sound C.G M.kinds
+            self.old (order_event craft number word result) self.new }
+        ensures exact { let word = word_of (M.kind matter.now) (M.fields matter.now) in
+            C.sound self.old.carrier → Exactly C.meaning C.says C.carries C.meddles
+            self.old (order_event craft number word result) self.new }
+        ensures promise { let word = word_of (M.kind matter.now) (M.fields matter.now) in
+            Promises C.meaning C.sound C.G M.kinds
+            self.old (order_event craft number word result) self.new }
+        ensures in_range { word_refusal M.kinds (word_of (M.kind matter.now) (M.fields matter.now)) ≡ None }
     {
         self.order_word(craft, number, matter.word())
     }
