@@ -7,7 +7,8 @@
 --   NothingHeard   no votes, and nothing delivered
 --   RecordPut      one record put in place of another
 --   turn_of        what the craft does on hearing a note
---   CraftHeard     it heard a note, and its turn is answered: the other orders keep their votes, and no word goes to a slip or a line
+--   CraftVotesSet  it heard a note, and its turn is answered: the other orders keep their votes, and no word goes to a slip or a line
+--   HeardByCraft   that, of a note for which the votes have a place
 --   HeardOfOrigin  the same of the orders of one origin
 use Rattle.std.specs.Prelude.{◌≡◌, ℕ, Bool, ◌&&◌, ◌==◌, cond, [], slice_index_or, slice_set}
 use Rattle.frames.specs.declared.notes.Note.{Note}
@@ -19,6 +20,7 @@ use Rattle.votes.specs.declared.record.Votes.{Votes}
 use Rattle.votes.specs.declared.craft_votes.OriginVotes.{OriginVotes}
 use Rattle.votes.specs.declared.craft_votes.CraftVotes.{CraftVotes}
 use Rattle.votes.specs.Places.{is_out, is_booked}
+use Rattle.votes.specs.Ranges.{InTable}
 use Rattle.votes.specs.Records.{no_votes, tally, SameSlip, Takes}
 
 abbrev pub no_orders : OriginVotes
@@ -46,13 +48,16 @@ RecordPut g o k v g' = (o' k' : ℕ) → record_of g' o' k' ≡ cond (same_order
 abbrev pub turn_of : ℕ → ℕ → ℕ → ℕ → Note → CraftVotes → Turn
 turn_of n f l a x g = hear n f l a x.content (votes_of g x.origin x.number) x.step
 
-pub record CraftHeard (n f l a : ℕ) (x : Note) (g : CraftVotes) (r : Move) (g' : CraftVotes) : Type 0 where
+pub record CraftVotesSet (n f l a : ℕ) (x : Note) (g : CraftVotes) (r : Move) (g' : CraftVotes) : Type 0 where
   pub echoes : r.echoes ≡ (turn_of n f l a x g).echoes
   pub readies : r.readies ≡ (turn_of n f l a x g).readies
   pub delivers : r.delivers ≡ (turn_of n f l a x g).delivers
   pub votes : (o k : ℕ) → votes_of g' o k ≡ cond (same_order x.origin x.number o k) (turn_of n f l a x g).after (votes_of g o k)
   pub out : (o k : ℕ) → is_out (place_of g' o k) ≡ is_out (place_of g o k)
   pub booked : (o k : ℕ) → is_booked (place_of g' o k) ≡ is_booked (place_of g o k)
+
+abbrev pub HeardByCraft : ℕ → ℕ → ℕ → ℕ → Note → CraftVotes → Move → CraftVotes → Type 0
+HeardByCraft n f l a x g r g' = InTable n l a x → CraftVotesSet n f l a x g r g'
 
 pub record HeardOfOrigin (n f l a : ℕ) (x : Note) (os : OriginVotes) (r : Move) (os' : OriginVotes) : Type 0 where
   pub votes : Votes

@@ -3,11 +3,13 @@
 --   ready_of   its Ready, if it says one
 --   idle       nothing said, and nothing delivered
 --   Ignored    the answer is that, and what was kept stays as it is
-use Rattle.std.specs.Prelude.{◌≡◌, false, cond, Some, None, Option}
+--   Unheard    that, of a note for which the votes have no place
+use Rattle.std.specs.Prelude.{◌≡◌, ℕ, false, cond, Some, None, Option}
 use Rattle.frames.specs.declared.notes.Step.TheVariants.{Echo, Ready}
 use Rattle.frames.specs.declared.notes.Note.{Note}
 use Rattle.frames.specs.Notes.{note}
 use Rattle.votes.specs.declared.stages.Move.{Move}
+use Rattle.votes.specs.Ranges.{InTable}
 
 abbrev pub echo_of : Move → Note → Option Note
 echo_of u x = cond u.echoes (Some (note Echo x.origin x.number x.content)) None
@@ -21,3 +23,6 @@ idle = record { echoes = false; readies = false; delivers = false }
 pub record Ignored {A : Type 0} (x : A) (r : Move) (x' : A) : Type 0 where
   pub answer : r ≡ idle
   pub same : x' ≡ x
+
+abbrev pub Unheard : {A : Type 0} → ℕ → ℕ → ℕ → Note → A → Move → A → Type 0
+Unheard n l a x v r v' = (InTable n l a x → ⊥) → Ignored v r v'

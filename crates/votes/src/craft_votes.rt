@@ -2,8 +2,8 @@
 ghost use Rattle.std.specs.Prelude.{◌≡◌, ℕ, ◌≤◌, ◌<◌, length, slice_index_or, slice_set, Decides};
 ghost use Rattle.sets.specs.Sets.{labels};
 ghost use Rattle.frames.specs.Notes.{last_number};
-ghost use Rattle.votes.specs.Crafts.{record_of, NothingHeard, RecordPut, CraftHeard, HeardOfOrigin};
-ghost use Rattle.votes.specs.Moves.{Ignored};
+ghost use Rattle.votes.specs.Crafts.{record_of, NothingHeard, RecordPut, CraftVotesSet, HeardByCraft, HeardOfOrigin};
+ghost use Rattle.votes.specs.Moves.{Unheard};
 ghost use Rattle.votes.specs.Ranges.{InTable};
 ghost use Rattle.votes.specs.Records.{no_votes};
 
@@ -14,13 +14,13 @@ use frames::{LAST_NUMBER, Note};
 use sets::LABELS;
 
 // The votes on the orders of one origin, by their numbers.
-#[derive(Clone, Copy, PartialEq, Eq, Debug)]
-pub struct OriginVotes {
+#[derive(Clone, Copy)]
+struct OriginVotes {
     at: [Votes; ORDER_COUNT],
 }
 
 /// One craft's votes on the orders of all origins: what a satellite keeps of them.
-#[derive(Clone, Copy, PartialEq, Eq, Debug)]
+#[derive(Drop)]
 pub struct CraftVotes {
     // By origin.
     at: [OriginVotes; LABEL_COUNT],
@@ -105,7 +105,7 @@ impl CraftVotes {
     // The craft hears a note of an order that it has a place for.
     fn hear_within(&mut self, n: u8, f: u8, own: u8, author: u8, note: &Note) -> Move
         requires { InTable n own author note.now }
-        ensures { CraftHeard n f own author note.now self.old result self.new }
+        ensures { CraftVotesSet n f own author note.now self.old result self.new }
     {
         self.at[note.origin as usize].hear(n, f, own, author, note)
     }
@@ -113,8 +113,8 @@ impl CraftVotes {
     /// Craft `own`, which keeps these votes, one of n with at most f astray, hears the author's note. What the answer says is said by it at once:
     /// its own Echo and Ready are in its votes after the turn. Where there is no such craft, author or order, nothing is done.
     pub fn hear(&mut self, n: u8, f: u8, own: u8, author: u8, note: &Note) -> Move
-        ensures heard { InTable n own author note.now → CraftHeard n f own author note.now self.old result self.new }
-        ensures ignored { (InTable n own author note.now → ⊥) → Ignored self.old result self.new }
+        ensures heard { HeardByCraft n f own author note.now self.old result self.new }
+        ensures ignored { Unheard n own author note.now self.old result self.new }
     {
         if !is_in_table(n, own, author, note) {
             return Move::default();
