@@ -7,19 +7,20 @@ ghost use Rattle.votes.specs.Moves.{Unheard};
 ghost use Rattle.votes.specs.Ranges.{InTable};
 ghost use Rattle.votes.specs.Records.{no_votes};
 
+use crate::lengths::{LABEL_COUNT, ORDER_COUNT};
 use crate::record::Votes;
 use crate::stages::Move;
-use crate::{LABEL_COUNT, ORDER_COUNT};
 use frames::{LAST_NUMBER, Note};
 use sets::LABELS;
 
-// The votes on the orders of one origin, by their numbers.
+// The votes on the orders of one origin.
 #[derive(Clone, Copy)]
 struct OriginVotes {
+    // By number.
     at: [Votes; ORDER_COUNT],
 }
 
-/// One craft's votes on the orders of all origins: what a satellite keeps of them.
+/// One craft's votes on the orders of all origins: all that a satellite keeps of what it heard, its shelf aside.
 #[derive(Drop)]
 pub struct CraftVotes {
     // By origin.
@@ -102,7 +103,7 @@ impl CraftVotes {
         self.at[origin as usize].put(number, votes);
     }
 
-    // The craft hears a note of an order that it has a place for.
+    // The craft hears a note that its votes have a place for.
     fn hear_within(&mut self, n: u8, f: u8, own: u8, author: u8, note: &Note) -> Move
         requires { InTable n own author note.now }
         ensures { CraftVotesSet n f own author note.now self.old result self.new }
@@ -110,8 +111,9 @@ impl CraftVotes {
         self.at[note.origin as usize].hear(n, f, own, author, note)
     }
 
-    /// Craft `own`, which keeps these votes, one of n with at most f astray, hears the author's note. What the answer says is said by it at once:
-    /// its own Echo and Ready are in its votes after the turn. Where there is no such craft, author or order, nothing is done.
+    /// Craft `own`, which keeps these votes, one of n of whom at most f are astray, hears the author's note, and does what docs/PROTOCOL.md has for it.
+    /// Its own Echo and Ready, if the answer says them, are among its votes already. Whether the note is sound, and n above 3f, is not looked at;
+    /// nothing is done where n, a label or the number is past what the votes have a place for.
     pub fn hear(&mut self, n: u8, f: u8, own: u8, author: u8, note: &Note) -> Move
         ensures heard { HeardByCraft n f own author note.now self.old result self.new }
         ensures ignored { Unheard n own author note.now self.old result self.new }

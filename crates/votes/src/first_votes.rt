@@ -1,10 +1,10 @@
-// First votes: a set of authors, with a word for each of them. They are passed as two fields, since as a struct they would be padded from 65 bytes to 72.
+// First votes: a set of authors, with a word for each of them. The two are passed as they lie in the votes, since a struct of them would be padded from 65 bytes to 72.
 ghost use Rattle.std.specs.Prelude.{◌≡◌, ◌≤◌, ◌<◌, cond};
 ghost use Rattle.sets.specs.Sets.{labels, passing};
 ghost use Rattle.agreement.specs.Votes.{is, first};
 ghost use Rattle.votes.specs.Firsts.{firsts};
 
-use crate::LABEL_COUNT;
+use crate::lengths::LABEL_COUNT;
 use sets::{CraftSet, contains, with};
 
 // The author votes for the word, where it has not voted yet.
