@@ -1,10 +1,20 @@
 -- Sums over the numbers below n. Assumes nothing.
+--   sum_none, sum_next
+--               no numbers, and one more
 --   sum_bound   n numbers of at most b
 --   sum_mono    none smaller
 --   sum_more    one of them larger by d
-use Rattle.std.proofs.Common.{◌≡◌, ℕ, zero, suc, ◌+◌, ◌*◌, ◌<◌, ◌≤◌, ap, ⊎_elim, arith}
+use Rattle.std.proofs.Common.{◌≡◌, ℕ, zero, suc, ◌+◌, ◌*◌, ◌<◌, ◌≤◌, ap, refl, ⊎_elim, arith}
 use Rattle.std.proofs.lemmas.Bool.{cases_eq}
 use Rattle.agreement.specs.Flights.{sum}
+
+pub sum_none : (F : ℕ → ℕ) → sum 0 F ≡ 0
+unfolding sum
+sum_none F = refl
+
+pub sum_next : (n : ℕ) (F : ℕ → ℕ) → sum (n + 1) F ≡ sum n F + F n
+unfolding sum
+sum_next n F = let e : n + 1 ≡ suc n = omega arith in ap (λ (i : ℕ). sum i F) e
 
 pub sum_bound : (n b : ℕ) (F : ℕ → ℕ) → ((i : ℕ) → F i ≤ b) → sum n F ≤ n * b
 unfolding sum
