@@ -3,7 +3,8 @@
 --   Answers              the answer is the one that the carrier defines for the frame
 --   Labels               what is told is labelled by craft, and its note is sound by its author
 --   Labelled             the same of an answer: a caller may index its own tables by it
-use Rattle.std.specs.Prelude.{◌≡◌, ℕ, ◌<◌, true, Some, None, Ok, Err, Option, Result}
+--   toil_limit           below it is every toil: a number of 128 bits holds twice as much, so a caller may add to it
+use Rattle.std.specs.Prelude.{◌≡◌, ℕ, ◌^◌, ◌<◌, true, Some, None, Ok, Err, Option, Result}
 use Rattle.refusals.specs.declared.Fault.{Fault}
 use Rattle.refusals.specs.Refusals.{told}
 use Rattle.frames.specs.declared.notes.Note.{Note}
@@ -36,3 +37,6 @@ Labels n (Some h) = (h.listener < n) × (h.author < n) × (sound n h.author h.no
 abbrev pub Labelled : ℕ → Result (Option Heard) Fault → Type 0
 Labelled n (Ok t) = Labels n t
 Labelled n (Err e) = Unit {0}
+
+abbrev pub toil_limit : ℕ
+toil_limit = 2 ^ 127

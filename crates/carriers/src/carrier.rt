@@ -1,12 +1,12 @@
 // What a carrier is.
-ghost use Rattle.std.specs.Prelude.{◌≡◌, ℕ, ◌≤◌, Option, Result, slice_index};
+ghost use Rattle.std.specs.Prelude.{◌≡◌, ℕ, ◌<◌, ◌≤◌, Option, Result, slice_index};
 ghost use Rattle.sets.specs.Sets.{labels};
 ghost use Rattle.agreement.specs.Carrying.{Fixed, carry_causes, meddle_causes};
 ghost use Rattle.refusals.specs.declared.Fault.{Fault};
 ghost use Rattle.frames.specs.declared.notes.Note.{Note};
 ghost use Rattle.frames.specs.declared.notes.Frame.{Frame};
 ghost use Rattle.carriers.specs.declared.heard.Heard.{Heard};
-ghost use Rattle.carriers.specs.Calls.{Say, Carry, Meddle, Answers, Labelled};
+ghost use Rattle.carriers.specs.Calls.{Say, Carry, Meddle, Answers, Labelled, toil_limit};
 ghost use Rattle.carriers.specs.Judging.{Judged};
 
 use crate::heard::Heard;
@@ -91,6 +91,11 @@ pub trait Carrier: LawfulCarrier {
     // How many more calls there is room for, at least.
     fn spare(&self) -> usize
         ensures { result ≡ (Self.meaning self.now).spare };
+
+    // The toil: how many carries can be accepted at most, with no other call between them.
+    fn toil(&self) -> u128
+        ensures answer { result ≡ (Self.meaning self.now).toil }
+        ensures few { result < toil_limit };
 
     // The craft astray.
     fn astray(&self) -> CraftSet

@@ -119,6 +119,10 @@ impl<L: LinkService> Carrier for Direct<L> {
         self.store.spare()
     }
 
+    fn toil(&self) -> u128 {
+        self.waiting() as u128
+    }
+
     fn astray(&self) -> CraftSet {
         self.astray
     }

@@ -35,10 +35,12 @@ fn compare<A: Carrier, B: Carrier>(rt: &impl Abort, a: &mut A, b: &mut B) {
     // said again, which changes nothing
     say_both(rt, a, b, 3, echo(9));
     assert_eq!(rt; a.waiting(), 9);
+    assert_eq!(rt; a.toil(), 9);
     for _ in 0..9 {
         carry_both(rt, a, b);
     }
     assert_eq!(rt; a.waiting(), 0);
+    assert_eq!(rt; a.toil(), 0);
     assert!(rt; a.carry(0).is_err());
     all_heard(rt, a, 0, &echo(5));
     all_heard(rt, a, 2, &echo(5));

@@ -3,5 +3,6 @@
 
 pub mod kinds;
 pub mod relay_carrier;
+mod toil;
 
 pub use kinds::Relay;

@@ -15,7 +15,7 @@ use frames::{Frame, Note};
 use links::{Entry, LinkService};
 use pathsets::{Listener, Outcome, take_in_at};
 use refusals::Fault;
-use sets::CraftSet;
+use sets::{CraftSet, LABELS};
 
 // Puts the entry's note on, with the outcome's set, from the craft that it came to; where nobody is to be told, nothing is put.
 fn pass_on<L: LinkService>(links: &mut L, entry: &Entry, out: &Outcome) -> Result<(), Fault>
@@ -126,6 +126,10 @@ impl<L: LinkService> Carrier for Relay<L> {
 
     fn spare(&self) -> usize {
         self.base.spare()
+    }
+
+    fn toil(&self) -> u128 {
+        self.waiting() as u128 + u128::from(LABELS) * self.all_open()
     }
 
     fn astray(&self) -> CraftSet {

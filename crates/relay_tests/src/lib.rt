@@ -13,3 +13,5 @@ mod rest;
 mod sizes;
 #[cfg(test)]
 mod steps;
+#[cfg(test)]
+mod toil;
