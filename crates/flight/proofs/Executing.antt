@@ -31,17 +31,17 @@ use Rattle.flight.specs.declared.lists.Answer.{Answer}
 use Rattle.flight.specs.Ledgers.{state_of}
 use Rattle.flight.specs.Exact.{Exactly}
 use Rattle.flight.specs.Lives as lives
-use Rattle.flight.specs.Lives.{Lived, Opens, Step, Steps}
-use Rattle.flight.specs.Lists.{Books, written, no_room, Does, Did, GoesOn, Executed, ExecutedAll, Flown}
+use Rattle.flight.specs.Lives.{Lived, Opens, CallStep, CallSteps}
+use Rattle.flight.specs.Lists.{BookingCalls, written, no_room, Does, Did, GoesOn, Executed, ExecutedAll, Flown}
 use Rattle.flight.specs.Lists as lists
 
 module _ {C M : Type 0} (meaning : C → Meaning) (sound : C → Type 0) (g : ℕ) (ks : List Kind) (says : C → ℕ → Note → Result Unit Fault → C → Type 0)
     (carries : C → ℕ → Result (Option Heard) Fault → C → Type 0) (meddles : C → ℕ → ℕ → Frame → Result Unit Fault → C → Type 0) where
   abbrev Goes : Flight C M → List Event → Flight C M → Type 0
-  Goes x es x' = Steps meaning sound g ks says carries meddles x es x'
+  Goes x es x' = CallSteps meaning sound g ks says carries meddles x es x'
 
   abbrev Took : Flight C M → Event → Flight C M → Type 0
-  Took x e x' = Step meaning sound g ks says carries meddles x e x'
+  Took x e x' = CallStep meaning sound g ks says carries meddles x e x'
 
   steps_live : (x x' : Flight C M) (calls es : List Event) → Goes x calls x' → Lived meaning sound g ks es x → Lived meaning sound g ks (calls ++ es) x'
   steps_live x x' [] es lives.none life = life
@@ -123,13 +123,13 @@ taken g ks s s₁ s₂ s₃ c o k c' o' k' v p q r got same told_no =
     none-some v (sym (cond-false (not (s₂.ledger.out c' o' k')) _ None (ap not out)) ∙ told_no.0)
 
 pub books_written : (c o k at sc so sk : ℕ) (buffer after : List ℕ) → sc ≡ c → so ≡ o → sk ≡ k
-    → Books c o k at buffer (Ok tt) (booked sc so sk at buffer after ∷ collected c o k ∷ []) after
+    → BookingCalls c o k at buffer (Ok tt) (booked sc so sk at buffer after ∷ collected c o k ∷ []) after
 books_written c o k at sc so sk buffer after p q r =
-    subst (λ (e : Event). Books c o k at buffer (Ok tt) (e ∷ collected c o k ∷ []) after) (sym (λ i. booked (p i) (q i) (r i) at buffer after)) written
+    subst (λ (e : Event). BookingCalls c o k at buffer (Ok tt) (e ∷ collected c o k ∷ []) after) (sym (λ i. booked (p i) (q i) (r i) at buffer after)) written
 
 pub books_no_room : (c o k at sc so sk bc bo bk : ℕ) (buffer after : List ℕ) (e : Fault) → sc ≡ c → so ≡ o → sk ≡ k → bc ≡ c → bo ≡ o → bk ≡ k → after ≡ buffer
-    → Books c o k at buffer (Err e) (returned bc bo bk ∷ refused (book sc so sk at buffer) (told e) ∷ collected c o k ∷ []) after
+    → BookingCalls c o k at buffer (Err e) (returned bc bo bk ∷ refused (book sc so sk at buffer) (told e) ∷ collected c o k ∷ []) after
 books_no_room c o k at sc so sk bc bo bk buffer after e p q r p' q' r' same =
-    subst (λ (z : List ℕ). Books c o k at buffer (Err e) (returned bc bo bk ∷ refused (book sc so sk at buffer) (told e) ∷ collected c o k ∷ []) z) (sym same)
-    (subst (λ (es : List Event). Books c o k at buffer (Err e) es buffer)
+    subst (λ (z : List ℕ). BookingCalls c o k at buffer (Err e) (returned bc bo bk ∷ refused (book sc so sk at buffer) (told e) ∷ collected c o k ∷ []) z) (sym same)
+    (subst (λ (es : List Event). BookingCalls c o k at buffer (Err e) es buffer)
     (sym (λ i. returned (p' i) (q' i) (r' i) ∷ refused (book (p i) (q i) (r i) at buffer) (told e) ∷ collected c o k ∷ [])) no_room)

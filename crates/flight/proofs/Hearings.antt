@@ -43,20 +43,22 @@ hearing_done g ks meaning x x₁ x' i h d r ok hears table os same is voted =
     let t = h.note in
     let s = state_of meaning x in
     let u : turn (state_of meaning x₁) l a t ≡ turn s l a t =
-        (λ j. turn (state (meaning x₁.carrier) (ledger (table j) x₁.ordered)) l a t) ∙ same_turn (meaning x.carrier) (meaning x₁.carrier) x.table x.ordered x₁.ordered l a t hears.fixed in
+    (λ j. turn (state (meaning x₁.carrier) (ledger (table j) x₁.ordered)) l a t) ∙ same_turn (meaning x.carrier) (meaning x₁.carrier) x.table x.ordered x₁.ordered l a t hears.fixed in
     let v = voted.voted in
-    let told : d ≡ voted.told = same_ok {x = d} {y = voted.told} (sym is ∙ voted.answer) in
-    (ok, record {
-      between = meaning x₁.carrier;
-      hears = hears;
-      voted = record {
-        says = subst (λ (z : Turn). Saying g (meaning x₁.carrier) l (notes_said z t.origin t.number t.content) (meaning x'.carrier)) u v.says;
-        votes = λ b o j. v.votes b o j ∙ (λ k. cond (spec.here l t.origin t.number b o j) (u k).after ((ledger (table k) x.ordered).votes b o j));
-        told = ap delivery told ∙ v.told ∙ ap (λ (z : Turn). telling z.delivers l t) u;
-      };
-      orders = λ b j. ap (λ (z : List ℕ). has (get_or z b 0) j) (same ∙ os);
-      slips = record {
-        out = λ b o j. voted.slips.out b o j ∙ (λ k. (ledger (table k) x.ordered).out b o j);
-        booked = λ b o j. voted.slips.booked b o j ∙ (λ k. (ledger (table k) x.ordered).booked b o j);
-      };
-    })
+    let told : d ≡ voted.told = same_ok {x = d} {y = voted.told} (sym is ∙ voted.answer) in (
+      ok,
+      record {
+        between = meaning x₁.carrier;
+        hears = hears;
+        voted = record {
+          says = subst (λ (z : Turn). Saying g (meaning x₁.carrier) l (notes_said z t.origin t.number t.content) (meaning x'.carrier)) u v.says;
+          votes = λ b o j. v.votes b o j ∙ (λ k. cond (spec.here l t.origin t.number b o j) (u k).after ((ledger (table k) x.ordered).votes b o j));
+          told = ap delivery told ∙ v.told ∙ ap (λ (z : Turn). telling z.delivers l t) u;
+        };
+        orders = λ b j. ap (λ (z : List ℕ). has (get_or z b 0) j) (same ∙ os);
+        slips = record {
+          out = λ b o j. voted.slips.out b o j ∙ (λ k. (ledger (table k) x.ordered).out b o j);
+          booked = λ b o j. voted.slips.booked b o j ∙ (λ k. (ledger (table k) x.ordered).booked b o j);
+        };
+      },
+    )

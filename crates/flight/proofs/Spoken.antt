@@ -51,10 +51,10 @@ pub spoken : (g : ℕ) (m m₁ m' : Meaning) (u : Move) (l : ℕ) (t : Note) (o 
     → o ≡ echo_of u t → p ≡ ready_of u t → SaysIf g m l o q m₁ → SaysIf g m₁ l p r m' → (q ≡ Ok tt) × (r ≡ Ok tt) × Saying g m l (said u t) m'
 spoken g m m₁ m' u l t o p q r may eo ep first second =
     let a = spoke_if g m m₁ l may.author t Echo refl may.listener may.sound (omega (arith, may.room)) u.echoes q
-        (subst (λ (z : Option Note). SaysIf g m l z q m₁) eo first) in
+    (subst (λ (z : Option Note). SaysIf g m l z q m₁) eo first) in
     let b = spoke_if g m₁ m' l may.author t Ready refl (subst (λ (n : ℕ). l < n) (sym a.2) may.listener)
-        (subst (λ (n : ℕ). sound n may.author t ≡ true) (sym a.2) may.sound) (omega (arith, may.room, a.3)) u.readies r
-        (subst (λ (z : Option Note). SaysIf g m₁ l z r m') ep second) in
+    (subst (λ (n : ℕ). sound n may.author t ≡ true) (sym a.2) may.sound) (omega (arith, may.room, a.3)) u.readies r
+    (subst (λ (z : Option Note). SaysIf g m₁ l z r m') ep second) in
     (a.0, b.0, saying_then g m m₁ m' l _ _ a.1 b.1)
 
 not_both : {Y : Type 0} (r : Result Unit Fault) (e : Fault) → r ≡ Ok tt → r ≡ Err e → Y

@@ -1,7 +1,7 @@
 -- A flight's state, and its calls by what they answer. Assumes nothing.
 --   ledger              what a flight keeps beside its carrier
 --   ledger_of, state_of a flight's ledger, and its state
---   room_causes         why a call that needs room is refused: less is spare than it needs (8)
+--   tight_causes        why a call that needs room is refused: less is spare than it needs (8)
 --   order_event, carry_event, meddle_event
 --                       a call with its answer
 --   Calls               a call, and what it leaves
@@ -36,8 +36,8 @@ ledger_of x = ledger x.table x.ordered
 abbrev pub state_of : {C M : Type 0} → (C → Meaning) → Flight C M → State
 state_of meaning x = state (meaning x.carrier) (ledger_of x)
 
-abbrev pub room_causes : ℕ → List Cause
-room_causes spare = cause 4 8 (spare ∷ []) (nat_lt spare least_spare) ∷ []
+abbrev pub tight_causes : ℕ → List Cause
+tight_causes spare = cause 4 8 (spare ∷ []) (nat_lt spare least_spare) ∷ []
 
 abbrev pub order_event : ℕ → ℕ → ℕ → Result (Option Delivery) Fault → Event
 order_event c k w (Ok d) = ordered c k w (delivery d)

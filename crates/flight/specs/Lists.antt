@@ -1,5 +1,5 @@
 -- Lists of commands. Assumes nothing.
---   Books       the calls of a booking, the newest first, and what they leave in the buffer: the collect is refused; or the line is written;
+--   BookingCalls       the calls of a booking, the newest first, and what they leave in the buffer: the collect is refused; or the line is written;
 --               or the line finds no room, and the slip is put back
 --   Does        the calls that a command made, with what came of it, and what they leave in the buffer
 --   Did         all calls that commands made, the newest first, with what came of each, and what they leave in the buffer
@@ -25,12 +25,12 @@ use Rattle.flight.specs.declared.lists.Command.TheVariants.{Order, Carry, Meddle
 use Rattle.flight.specs.declared.lists.Answer.{Answer}
 use Rattle.flight.specs.declared.lists.Answer.TheVariants.{Ordered, Carried, Meddled, Booked}
 use Rattle.flight.specs.Ledgers.{state_of, order_event, carry_event, meddle_event}
-use Rattle.flight.specs.Lives.{Lived, Opens, Steps}
+use Rattle.flight.specs.Lives.{Lived, Opens, CallSteps}
 
-pub data Books (c o k at : ℕ) (buffer : List ℕ) : Result Unit Fault → List Event → List ℕ → Type 0 where
-  nothing : {e : Fault} → Books c o k at buffer (Err e) (refused (collect c o k) (told e) ∷ []) buffer
-  written : {after : List ℕ} → Books c o k at buffer (Ok tt) (booked c o k at buffer after ∷ collected c o k ∷ []) after
-  no_room : {e : Fault} → Books c o k at buffer (Err e) (returned c o k ∷ refused (book c o k at buffer) (told e) ∷ collected c o k ∷ []) buffer
+pub data BookingCalls (c o k at : ℕ) (buffer : List ℕ) : Result Unit Fault → List Event → List ℕ → Type 0 where
+  nothing : {e : Fault} → BookingCalls c o k at buffer (Err e) (refused (collect c o k) (told e) ∷ []) buffer
+  written : {after : List ℕ} → BookingCalls c o k at buffer (Ok tt) (booked c o k at buffer after ∷ collected c o k ∷ []) after
+  no_room : {e : Fault} → BookingCalls c o k at buffer (Err e) (returned c o k ∷ refused (book c o k at buffer) (told e) ∷ collected c o k ∷ []) buffer
 
 abbrev pub Does : Command → List ℕ → Answer → List Event → List ℕ → Type 0
 Does (Order c k w) buffer (Ordered r) es after = (es ≡ order_event c k w r ∷ []) × (after ≡ buffer)
@@ -48,7 +48,7 @@ Does (Meddle c to x) buffer (Booked r) es after = ⊥
 Does (Book c o k at) buffer (Ordered r) es after = ⊥
 Does (Book c o k at) buffer (Carried r) es after = ⊥
 Does (Book c o k at) buffer (Meddled r) es after = ⊥
-Does (Book c o k at) buffer (Booked r) es after = Books c o k at buffer r es after
+Does (Book c o k at) buffer (Booked r) es after = BookingCalls c o k at buffer r es after
 
 pub data Did (buffer : List ℕ) : List Command → List Answer → List Event → List ℕ → Type 0 where
   none : Did buffer [] [] [] buffer
@@ -65,13 +65,13 @@ module _ {C M : Type 0} (meaning : C → Meaning) (sound : C → Type 0) (g : �
     pub record Executed (x : Flight C M) (buffer : List ℕ) (d : Command) (a : Answer) (x' : Flight C M) (after : List ℕ) : Type 0 where
       pub calls : List Event
       pub does : Does d buffer a calls after
-      pub steps : Steps meaning sound g ks says carries meddles x calls x'
+      pub steps : CallSteps meaning sound g ks says carries meddles x calls x'
       pub promise : GoesOn x calls x'
 
     pub record ExecutedAll (x : Flight C M) (buffer : List ℕ) (ds : List Command) (answers : List Answer) (x' : Flight C M) (after : List ℕ) : Type 0 where
       pub calls : List Event
       pub did : Did buffer ds answers calls after
-      pub steps : Steps meaning sound g ks says carries meddles x calls x'
+      pub steps : CallSteps meaning sound g ks says carries meddles x calls x'
       pub promise : GoesOn x calls x'
 
     pub record Flown {F : Type 0} (opens : F → Result C Fault → Type 0) (from : F) (buffer : List ℕ) (ds : List Command) (before answers : List Answer)

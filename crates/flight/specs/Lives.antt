@@ -3,8 +3,8 @@
 --   Opens       a flight over the carrier in which nothing was voted, ordered, collected or booked; where the carrier is fresh and sound,
 --               its life begins
 --   Promises    whatever calls led to the flight, they and this one lead on to the flight after, and after them the craft agree
---   Step        one call: what it does in the flight's meaning, and in the carrier's own relations
---   Steps       calls one after the other, the newest first
+--   CallStep    one call: what it does in the flight's meaning, and in the carrier's own relations
+--   CallSteps   calls one after the other, the newest first
 use Rattle.std.specs.Prelude.{◌≡◌, ℕ, List, [], ◌∷◌, Option, Result}
 use Rattle.matter.specs.Layouts.{Kind}
 use Rattle.refusals.specs.declared.Fault.{Fault}
@@ -33,10 +33,10 @@ module _ {C M : Type 0} (meaning : C → Meaning) (sound : C → Type 0) (g : �
 
   module _ (says : C → ℕ → Note → Result Unit Fault → C → Type 0) (carries : C → ℕ → Result (Option Heard) Fault → C → Type 0)
       (meddles : C → ℕ → ℕ → Frame → Result Unit Fault → C → Type 0) where
-    pub record Step (x : Flight C M) (e : Event) (x' : Flight C M) : Type 0 where
+    pub record CallStep (x : Flight C M) (e : Event) (x' : Flight C M) : Type 0 where
       pub call : Calls meaning sound g ks x e x'
       pub exact : sound x.carrier → Exactly meaning says carries meddles x e x'
 
-    pub data Steps (x : Flight C M) : List Event → Flight C M → Type 0 where
-      none : Steps x [] x
-      then : {y z : Flight C M} {es : List Event} {e : Event} → Steps x es y → Step y e z → Steps x (e ∷ es) z
+    pub data CallSteps (x : Flight C M) : List Event → Flight C M → Type 0 where
+      none : CallSteps x [] x
+      then : {y z : Flight C M} {es : List Event} {e : Event} → CallSteps x es y → CallStep y e z → CallSteps x (e ∷ es) z

@@ -5,7 +5,8 @@ ghost use Rattle.frames.specs.Notes.{last_number};
 ghost use Rattle.agreement.specs.Flights.{Answered, collect, causes};
 ghost use Rattle.carriers.specs.Judging.{Judged};
 ghost use Rattle.flight.specs.Ledgers.{state_of};
-ghost use Rattle.flight.specs.Slips.{collect_event, book_event, return_event, Collected, BookedLine, GivenBack};
+ghost use Rattle.flight.specs.Slips.{collect_event, book_event, return_event};
+ghost use Rattle.flight.specs.Slips.{Collected, BookedLine, GivenBack};
 
 use crate::flight::Flight;
 use crate::slips::Slip;
@@ -18,7 +19,8 @@ use votes::Place;
 impl<C: Carrier, M: Matter + Drop> Flight<C, M> {
     // Whether a collect is refused; 1 of the craft, 1 of the origin, 5, 12.
     fn judge_collect(&self, craft: u8, origin: u8, number: u8) -> Result<(), Fault>
-        ensures causes { Judged (causes M.kinds (state_of C.meaning self.now) (collect craft origin number)) result }
+        ensures causes { Judged
+            (causes M.kinds (state_of C.meaning self.now) (collect craft origin number)) result }
         ensures craft { OnOk result (craft < labels) }
         ensures origin { OnOk result (origin < labels) }
         ensures number { OnOk result (number ≤ last_number) }

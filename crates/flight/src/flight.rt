@@ -6,7 +6,6 @@ use carriers::{Carrier, Heard};
 use frames::Frame;
 use matter::Matter;
 use refusals::Fault;
-use sets::CraftSet;
 use std::marker::PhantomData;
 use votes::{Delivery, LABEL_COUNT, Table};
 
@@ -25,19 +24,20 @@ pub struct Flight<C, M> {
     pub(crate) carrier: C,
     // The votes of all craft, and where each delivery is.
     pub(crate) table: Table,
-    // By craft, the set of the numbers that it has ordered under.
-    pub(crate) ordered: [CraftSet; LABEL_COUNT],
+    // By craft, the set of the numbers that it has ordered under: bit i is for number i.
+    pub(crate) ordered: [u8; LABEL_COUNT],
     pub(crate) matter: PhantomData<M>,
 }
 
 impl<C: Carrier, M: Matter + Drop> Flight<C, M> {
     ghost use Rattle.std.specs.Prelude.{◌≡◌, None};
     ghost use Rattle.matter.specs.Layouts.{word_of, word_refusal};
-    ghost use Rattle.agreement.specs.Flights.{Answered};
+    ghost use Rattle.agreement.specs.Flights.{Answered, flight_toil};
     ghost use Rattle.flight.specs.Ledgers.{state_of, order_event, carry_event, meddle_event, Calls};
     ghost use Rattle.flight.specs.Exact.{Exactly};
     ghost use Rattle.flight.specs.Lives.{Opens, Promises};
-    ghost use Rattle.flight.specs.Slips.{collect_event, book_event, return_event, Collected, BookedLine, GivenBack};
+    ghost use Rattle.flight.specs.Slips.{collect_event, book_event, return_event};
+    ghost use Rattle.flight.specs.Slips.{Collected, BookedLine, GivenBack};
 
     /// A flight over a carrier, in which nothing is voted, ordered, out or booked. Over a carrier that was opened just now its life begins:
     /// that the carrier is fresh and sound is what the carrier's own opening gives.
@@ -57,6 +57,17 @@ impl<C: Carrier, M: Matter + Drop> Flight<C, M> {
         ensures { result.now ≡ self.now.carrier }
     {
         &self.carrier
+    }
+
+    /// The flight's toil: how many carries can be accepted at most, with no other call between them, before nothing waits.
+    /// The carrier's toil, and its G for each Echo and Ready that is not said yet.
+    pub fn toil(&self) -> u128
+        ensures { result ≡ flight_toil C.G (state_of C.meaning self.now) }
+    {
+        let n = self.carrier.craft();
+        let notes = 8 * (u32::from(n) * u32::from(n));
+        let unsaid = notes.saturating_sub(self.table.said(n));
+        self.carrier.toil() + u128::from(C::G) * u128::from(unsaid)
     }
 
     /// The craft orders a word under a number; 1, 5, 11, 6, 8.
@@ -87,7 +98,8 @@ impl<C: Carrier, M: Matter + Drop> Flight<C, M> {
         ensures promise { let word = word_of (M.kind matter.now) (M.fields matter.now) in
             Promises C.meaning C.sound C.G M.kinds
             self.old (order_event craft number word result) self.new }
-        ensures in_range { word_refusal M.kinds (word_of (M.kind matter.now) (M.fields matter.now)) ≡ None }
+        ensures in_range { word_refusal M.kinds
+            (word_of (M.kind matter.now) (M.fields matter.now)) ≡ None }
     {
         self.order_word(craft, number, matter.word())
     }

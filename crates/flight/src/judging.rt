@@ -1,15 +1,16 @@
 // Why a call of a flight is refused: the causes in the order in which they are tested.
-ghost use Rattle.std.specs.Prelude.{◌≡◌, ℕ, ◌<◌, ◌≤◌, OnOk};
+ghost use Rattle.std.specs.Prelude.{◌<◌, ◌≤◌, ◌++◌, OnOk};
 ghost use Rattle.sets.specs.Sets.{labels};
 ghost use Rattle.frames.specs.Notes.{last_number};
 ghost use Rattle.matter.specs.Layouts.{word_refusal};
-ghost use Rattle.agreement.specs.Flights.{order, carry, meddle, collect, word_cause, causes};
+ghost use Rattle.agreement.specs.Carrying.{meddle_causes};
+ghost use Rattle.agreement.specs.Flights.{order, carry, word_cause, tight, causes};
 ghost use Rattle.carriers.specs.Judging.{Judged};
-ghost use Rattle.flight.specs.Ledgers.{state_of, room_causes};
+ghost use Rattle.flight.specs.Ledgers.{state_of, tight_causes};
 
 use crate::flight::Flight;
 use carriers::Carrier;
-use frames::{Frame, LAST_NUMBER};
+use frames::LAST_NUMBER;
 use matter::Matter;
 use refusals::{Fault, Layer, Refusal};
 use sets::contains;
@@ -27,7 +28,7 @@ pub const LEAST_SPARE: usize = 3;
 
 // Whether so much is spare; 8.
 fn judge_room(spare: usize) -> Result<(), Fault>
-    ensures { Judged (room_causes spare) result }
+    ensures { Judged (tight_causes spare) result }
 {
     if spare < LEAST_SPARE {
         return Err(Layer::Flight.refuses(Refusal::Spare(spare)));
@@ -38,7 +39,8 @@ fn judge_room(spare: usize) -> Result<(), Fault>
 impl<C: Carrier, M: Matter + Drop> Flight<C, M> {
     // Whether an order is refused; 1, 5, 11, 6, 8.
     pub(crate) fn judge_order(&self, craft: u8, number: u8, word: u64) -> Result<(), Fault>
-        ensures causes { Judged (causes M.kinds (state_of C.meaning self.now) (order craft number word)) result }
+        ensures causes { Judged
+            (causes M.kinds (state_of C.meaning self.now) (order craft number word)) result }
         ensures label { OnOk result (craft < (C.meaning self.now.carrier).n) }
         ensures few { OnOk result (craft < labels) }
         ensures number { OnOk result (number ≤ last_number) }
@@ -64,9 +66,10 @@ impl<C: Carrier, M: Matter + Drop> Flight<C, M> {
         judge_room(self.carrier.spare())
     }
 
-    // Whether a meddle is refused; what the carrier refuses, room aside (1, 1, 9, 10), and 8.
-    pub(crate) fn judge_meddle(&self, c: u8, to: u8, frame: &Frame) -> Result<(), Fault>
-        ensures { Judged (causes M.kinds (state_of C.meaning self.now) (meddle c to frame.now)) result }
+    // Whether a meddle is refused, whatever the frame; what the carrier refuses, room aside (1, 1, 9, 10), and 8.
+    pub(crate) fn judge_meddle(&self, c: u8, to: u8) -> Result<(), Fault>
+        ensures { Judged (meddle_causes (C.meaning self.now.carrier) c to
+            ++ tight (state_of C.meaning self.now)) result }
     {
         self.carrier.judge_meddle(c, to)?;
         judge_room(self.carrier.spare())

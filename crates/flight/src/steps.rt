@@ -61,7 +61,7 @@ impl<C: Carrier, M: Matter + Drop> Flight<C, M> {
         ensures exact { C.sound self.old.carrier → Exactly C.meaning C.says C.carries C.meddles
             self.old (meddle_event c to frame result) self.new }
     {
-        self.judge_meddle(c, to, &frame)?;
+        self.judge_meddle(c, to)?;
         self.carrier.meddle(c, to, frame)
     }
 }

@@ -12,8 +12,7 @@ loop-i-preserved g c =
     let least = c.min-count.ensures in
     let i = c.loop-i.i in
     let d : i < length c.args.commands.now = omega arith in
-    let a : i < length c.loop-i.answers = omega arith in
-    (
+    let a : i < length c.loop-i.answers = omega arith in (
       all_on _ _ _ _ _ _ _ g.C.LawfulCarrier.lawful c.args.commands.now c.loop-i.answers i c.execute.result _ c.args.flight.now c.loop-i.flight _ _ _ _ d a
           c.loop-i.invariant.0 c.execute.ensures,
       drop-set-lt c.min-count.result c.loop-i.answers i c.execute.result c.loop-i-test.true ∙ c.loop-i.invariant.1,
