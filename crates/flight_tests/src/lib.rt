@@ -1,0 +1,11 @@
+// Flights over both carriers and both link services.
+#![tactic(auto)]
+
+#[cfg(test)]
+mod given;
+#[cfg(test)]
+mod rest;
+#[cfg(test)]
+mod sizes;
+#[cfg(test)]
+mod two_craft;
