@@ -9,3 +9,5 @@ mod rest;
 mod sizes;
 #[cfg(test)]
 mod two_craft;
+#[cfg(test)]
+mod two_words;
