@@ -8,6 +8,8 @@ mod rest;
 #[cfg(test)]
 mod sizes;
 #[cfg(test)]
+mod spare;
+#[cfg(test)]
 mod two_craft;
 #[cfg(test)]
 mod two_words;
