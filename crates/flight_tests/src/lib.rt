@@ -2,11 +2,17 @@
 #![tactic(auto)]
 
 #[cfg(test)]
+mod commands;
+#[cfg(test)]
 mod given;
+#[cfg(test)]
+mod refused;
 #[cfg(test)]
 mod rest;
 #[cfg(test)]
 mod sizes;
+#[cfg(test)]
+mod slips;
 #[cfg(test)]
 mod spare;
 #[cfg(test)]
