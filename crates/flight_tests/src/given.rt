@@ -28,7 +28,7 @@ pub(crate) fn linked(n: u8) -> [CraftSet; 8] {
     rows
 }
 
-// An observation: target 300, start 3,600, length 12, mode 1.
+// An observation of target 300 from second 3,600 on, for 12 seconds, in mode 1.
 pub(crate) const WORD: u64 = 0x0101_2c00_0e10_0c01;
 
 // The same of target 301.
