@@ -5,7 +5,7 @@ use carriers::{Carrier, Direct, OpenedCarrier};
 use cuts::{open_direct, open_relay};
 use flight::{Answer, Command, Flight, execute_all, fly};
 use frames::{AnyMatter, Step};
-use links::EntryList;
+use links::{EntryList, LinkService};
 use putlog::PutLog;
 use refusals::{Fault, Layer, Refusal};
 use relay::Relay;
@@ -80,20 +80,28 @@ fn a_list_gives_the_listing(rt: HostRuntime) -> Result<(), Fail> {
 }
 
 // Too short a list for the link service: no command is executed.
-#[test]
-fn a_refused_opening_answers_nothing(rt: HostRuntime) -> Result<(), Fail> {
-    let mut list = room();
-    let from = (EntryList::new(&mut list[..1007]), open_direct(&TWO, 0)?);
+fn open_refused<L: LinkService + Drop>(
+    rt: &impl Abort,
+    links: L,
+    needed: usize,
+) -> Result<(), Fail> {
+    let from = (links, open_direct(&TWO, 0)?);
     let mut told = [BLANK; 10];
     let mut buffer = [0; 60];
-    let flown = fly::<Direct<EntryList>, AnyMatter>(from, &commands(), &mut told, &mut buffer);
+    let flown = fly::<Direct<L>, AnyMatter>(from, &commands(), &mut told, &mut buffer);
     assert_eq!(rt;
         flown.err(),
-        Some(Layer::Links.refuses(Refusal::Short(1008)))
+        Some(Layer::Links.refuses(Refusal::Short(needed)))
     );
     assert_eq!(rt; told, [BLANK; 10]);
     assert_eq!(rt; buffer, [0; 60]);
     Ok(())
+}
+
+#[test]
+fn a_refused_opening_answers_nothing(rt: HostRuntime) -> Result<(), Fail> {
+    let mut list = room();
+    open_refused(&rt, EntryList::new(&mut list[0..1007]), 1008)
 }
 
 // Three commands of which two find room for their answers, and one command with room for two.
