@@ -7,7 +7,8 @@
 --   Event         a call with its answer: accepted, in one of six ways (a carry in two), or refused, with what the refusal tells
 --   word_cause    why a word is refused, as a cause that holds where there is a refusal
 --   least_spare   what has to be spare for a call of a flight: room for what it puts itself, for an Echo and for a Ready
---   tight         less than that is spare (8)
+--   tight_causes, tight
+--                 less than that is spare (8)
 --   collectable   delivered, no slip out, not booked
 --   causes        why a call is refused, of matter of the kinds ks: the causes in the order in which they are tested
 --                   order      no craft (1), no number (5), no word of these kinds (as the word's reader tells it), ordered before (6), tight (8)
@@ -89,8 +90,11 @@ word_cause (Some v) = record { holds = true; tells = v } ∷ []
 abbrev pub least_spare : ℕ
 least_spare = 3
 
+abbrev pub tight_causes : ℕ → List Cause
+tight_causes spare = cause 4 8 (spare ∷ []) (nat_lt spare least_spare) ∷ []
+
 abbrev pub tight : State → List Cause
-tight s = cause 4 8 (s.carrier.spare ∷ []) (nat_lt s.carrier.spare least_spare) ∷ []
+tight s = tight_causes s.carrier.spare
 
 abbrev pub collectable : Ledger → ℕ → ℕ → ℕ → Bool
 collectable b c o k = present (b.votes c o k).delivered && (not (b.out c o k) && not (b.booked c o k))

@@ -92,7 +92,7 @@ pub trait Carrier: LawfulCarrier {
     fn spare(&self) -> usize
         ensures { result ≡ (Self.meaning self.now).spare };
 
-    // The toil: how many carries can be accepted at most, with no other call between them.
+    // The toil: of the carries that follow, with no other call between them, no more are accepted.
     fn toil(&self) -> u128
         ensures answer { result ≡ (Self.meaning self.now).toil }
         ensures few { result < toil_limit };

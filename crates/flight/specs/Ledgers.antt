@@ -1,18 +1,17 @@
 -- A flight's state, and its calls by what they answer. Assumes nothing.
 --   ledger              what a flight keeps beside its carrier
 --   ledger_of, state_of a flight's ledger, and its state
---   tight_causes        why a call that needs room is refused: less is spare than it needs (8)
 --   order_event, carry_event, meddle_event
 --                       a call with its answer
 --   Calls               a call, and what it leaves
-use Rattle.std.specs.Prelude.{ℕ, List, [], ◌∷◌, nat_lt, slice_index, Some, None, Ok, Err, Option, Result}
+use Rattle.std.specs.Prelude.{ℕ, List, slice_index, Some, None, Ok, Err, Option, Result}
 use Rattle.sets.specs.Sets.{has}
 use Rattle.matter.specs.Layouts.{Kind}
 use Rattle.refusals.specs.declared.Fault.{Fault}
-use Rattle.refusals.specs.Refusals.{Cause, cause, told}
+use Rattle.refusals.specs.Refusals.{told}
 use Rattle.frames.specs.declared.notes.Frame.{Frame}
 use Rattle.agreement.specs.Meanings.{Meaning}
-use Rattle.agreement.specs.Flights.{State, Ledger, Event, ordered, moved, heard, meddled, refused, order, carry, meddle, least_spare}
+use Rattle.agreement.specs.Flights.{State, Ledger, Event, ordered, moved, heard, meddled, refused, order, carry, meddle}
 use Rattle.agreement.specs.Lives.{state, Called}
 use Rattle.votes.specs.declared.table.Table.{Table}
 use Rattle.votes.specs.Places.{is_out, is_booked}
@@ -35,9 +34,6 @@ ledger_of x = ledger x.table x.ordered
 
 abbrev pub state_of : {C M : Type 0} → (C → Meaning) → Flight C M → State
 state_of meaning x = state (meaning x.carrier) (ledger_of x)
-
-abbrev pub tight_causes : ℕ → List Cause
-tight_causes spare = cause 4 8 (spare ∷ []) (nat_lt spare least_spare) ∷ []
 
 abbrev pub order_event : ℕ → ℕ → ℕ → Result (Option Delivery) Fault → Event
 order_event c k w (Ok d) = ordered c k w (delivery d)

@@ -4,9 +4,9 @@ ghost use Rattle.sets.specs.Sets.{labels};
 ghost use Rattle.frames.specs.Notes.{last_number};
 ghost use Rattle.matter.specs.Layouts.{word_refusal};
 ghost use Rattle.agreement.specs.Carrying.{meddle_causes};
-ghost use Rattle.agreement.specs.Flights.{order, carry, word_cause, tight, causes};
+ghost use Rattle.agreement.specs.Flights.{order, carry, word_cause, tight_causes, tight, causes};
 ghost use Rattle.carriers.specs.Judging.{Judged};
-ghost use Rattle.flight.specs.Ledgers.{state_of, tight_causes};
+ghost use Rattle.flight.specs.Ledgers.{state_of};
 
 use crate::flight::Flight;
 use carriers::Carrier;
