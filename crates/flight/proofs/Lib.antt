@@ -3,3 +3,4 @@ pub mod Orders
 pub mod Hearings
 pub mod Spoken
 pub mod Executing
+pub mod FirstOrder

@@ -6,3 +6,4 @@ pub mod Marking
 pub mod Slips
 pub mod Lives
 pub mod Lists
+pub mod ToilOfTwo

@@ -11,9 +11,11 @@ pub mod slips;
 pub mod speaking;
 pub mod steps;
 pub mod voting;
+pub mod worked;
 
 pub use flight::{Flight, Hearing};
 pub use flying::{execute_all, fly};
 pub use judging::LEAST_SPARE;
 pub use lists::{Answer, Command};
 pub use slips::Slip;
+pub use worked::worked_toil;
