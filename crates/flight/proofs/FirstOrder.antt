@@ -1,7 +1,8 @@
 -- The first order of two craft over a direct carrier. Assumes nothing.
 --   only_row       the one neighbour of a craft of two is the other
 --   one_frame      so a note that it says goes into one frame
---   says_new       a note that was not said is said: one frame more waits, and exactly this note is heard in addition, by its author
+--   SaysNew        one frame more waits, and exactly this note is heard in addition, by its author
+--   says_new       so where a note is said that was not said before
 --   after_send     the turn of a craft of two on its own Send, where it has not voted: it echoes, and that is all
 --   once_voted     the votes of a flight in which that is the only turn
 --   one_backer     one of two is no quorum
