@@ -2,7 +2,9 @@
 --   steps_live      calls go on with a life
 --   steps_on        calls after calls
 --   apart           a call that leaves the carrier as it was
---   goes_on         calls go on with a life, and then the craft agree
+--   life_sound      whoever has a life has a sound carrier
+--   steps_run       over a sound carrier calls are a run
+--   goes_on         calls go on with a life, then the craft agree, and carries alone come to an end
 --   executed, executed_once
 --                   a command, and one that is one call
 --   all_none, all_on   no commands, and one command more
@@ -22,7 +24,10 @@ use Rattle.frames.specs.declared.notes.Frame.{Frame}
 use Rattle.agreement.specs.Meanings.{Meaning, Lawful, Fresh}
 use Rattle.agreement.specs.Flights.{State, Event, collected, booked, returned, refused, book, put_back, here, Answered}
 use Rattle.agreement.specs.Agreement.{Agrees}
-use Rattle.agreement.specs.Lives.{called}
+use Rattle.agreement.specs.Flights.{Ledger}
+use Rattle.agreement.specs.Lives.{Life}
+use Rattle.agreement.specs.Lives as lives
+use Rattle.agreement.specs.Runs.{Run, still, then}
 use Rattle.agreement.proofs.Agrees.{agreement_over_lem}
 use Rattle.carriers.specs.declared.heard.Heard.{Heard}
 use Rattle.flight.specs.declared.flight.Flight.{Flight}
@@ -30,10 +35,16 @@ use Rattle.flight.specs.declared.lists.Command.{Command}
 use Rattle.flight.specs.declared.lists.Answer.{Answer}
 use Rattle.flight.specs.Ledgers.{state_of}
 use Rattle.flight.specs.Exact.{Exactly}
-use Rattle.flight.specs.Lives as lives
+use Rattle.flight.specs.Lives as flights
 use Rattle.flight.specs.Lives.{Lived, Opens, CallStep, CallSteps}
 use Rattle.flight.specs.Lists.{BookingCalls, written, no_room, Does, Did, GoesOn, Executed, ExecutedAll, Flown}
 use Rattle.flight.specs.Lists as lists
+
+-- whoever has a life has a sound carrier
+module _ {C : Type 0} {meaning : C → Meaning} {sound : C → Type 0} {g : ℕ} {ks : List Kind} where
+  life_sound : {es : List Event} {c : C} {b : Ledger} → Life meaning sound g ks es c b → sound c
+  life_sound (lives.begun opened) = opened.kept
+  life_sound (lives.called life call) = call.kept (life_sound life)
 
 module _ {C M : Type 0} (meaning : C → Meaning) (sound : C → Type 0) (g : ℕ) (ks : List Kind) (says : C → ℕ → Note → Result Unit Fault → C → Type 0)
     (carries : C → ℕ → Result (Option Heard) Fault → C → Type 0) (meddles : C → ℕ → ℕ → Frame → Result Unit Fault → C → Type 0) where
@@ -44,12 +55,12 @@ module _ {C M : Type 0} (meaning : C → Meaning) (sound : C → Type 0) (g : �
   Took x e x' = CallStep meaning sound g ks says carries meddles x e x'
 
   steps_live : (x x' : Flight C M) (calls es : List Event) → Goes x calls x' → Lived meaning sound g ks es x → Lived meaning sound g ks (calls ++ es) x'
-  steps_live x x' [] es lives.none life = life
-  steps_live x x' (e ∷ calls) es (lives.then {y = y} steps step) life = called (steps_live x y calls es steps life) step.call
+  steps_live x x' [] es flights.none life = life
+  steps_live x x' (e ∷ calls) es (flights.then {y = y} steps step) life = lives.called (steps_live x y calls es steps life) step.call
 
   steps_on : (x y z : Flight C M) (es calls : List Event) → Goes x es y → Goes y calls z → Goes x (calls ++ es) z
-  steps_on x y z es [] h lives.none = h
-  steps_on x y z es (e ∷ calls) h (lives.then {y = w} steps step) = lives.then (steps_on x y w es calls h steps) step
+  steps_on x y z es [] h flights.none = h
+  steps_on x y z es (e ∷ calls) h (flights.then {y = w} steps step) = flights.then (steps_on x y w es calls h steps) step
 
   -- a call that leaves the carrier as it was
   pub apart : (x x' : Flight C M) (e : Event) → Answered g ks (state_of meaning x) e (state_of meaning x') → x'.carrier ≡ x.carrier
@@ -57,10 +68,24 @@ module _ {C M : Type 0} (meaning : C → Meaning) (sound : C → Type 0) (g : �
   apart x x' e step same exact = record { call = record { step = λ _. step; kept = λ s. subst sound (sym same) s }; exact = λ _. exact }
 
   module _ (law : (c : C) → sound c → Lawful (meaning c)) where
+    -- over a sound carrier the calls are a run of the flight's states, and the carrier stays sound
+    pub steps_run : (x x' : Flight C M) (calls : List Event) → sound x.carrier → Goes x calls x'
+        → Run g ks (state_of meaning x) calls (state_of meaning x') × sound x'.carrier
+    steps_run x x' [] ok flights.none = (still (law x.carrier ok), ok)
+    steps_run x x' (e ∷ calls) ok (flights.then {y = y} steps step) =
+        let before = steps_run x y calls ok steps in
+        let kept = step.call.kept before.1 in
+        (then before.0 (step.call.step before.1) (law x'.carrier kept), kept)
+
     goes_on : (x x' : Flight C M) (calls : List Event) → Goes x calls x' → GoesOn meaning sound g ks x calls x'
     goes_on x x' calls steps es life =
         let more = steps_live x x' calls es steps life in
-        (more, agreement_over_lem law g ks (calls ++ es) _ _ more)
+        let run = steps_run x x' calls (life_sound life) steps in
+        (
+          more,
+          agreement_over_lem law g ks (calls ++ es) _ _ more,
+          λ carries. (agreement_over_lem law g ks es _ _ life).end calls (state_of meaning x') run.0 carries,
+        )
 
     pub executed : (d : Command) (a : Answer) (x x' : Flight C M) (buffer after : List ℕ) (calls : List Event) → Does d buffer a calls after → Goes x calls x'
         → Executed meaning sound g ks says carries meddles x buffer d a x' after
@@ -69,10 +94,10 @@ module _ {C M : Type 0} (meaning : C → Meaning) (sound : C → Type 0) (g : �
     pub executed_once : (d d' : Command) (a : Answer) (x x' : Flight C M) (buffer : List ℕ) (e : Event) → d' ≡ d → Does d buffer a (e ∷ []) buffer → Took x e x'
         → Executed meaning sound g ks says carries meddles x buffer d' a x' buffer
     executed_once d d' a x x' buffer e same does step =
-        executed d' a x x' buffer buffer (e ∷ []) (subst (λ (z : Command). Does z buffer a (e ∷ []) buffer) (sym same) does) (lives.then lives.none step)
+        executed d' a x x' buffer buffer (e ∷ []) (subst (λ (z : Command). Does z buffer a (e ∷ []) buffer) (sym same) does) (flights.then flights.none step)
 
     pub all_none : (x : Flight C M) (buffer : List ℕ) → ExecutedAll meaning sound g ks says carries meddles x buffer [] [] x buffer
-    all_none x buffer = record { calls = []; did = lists.none; steps = lives.none; promise = goes_on x x [] lives.none }
+    all_none x buffer = record { calls = []; did = lists.none; steps = flights.none; promise = goes_on x x [] flights.none }
 
     pub all_on : (ds : List Command) (answers : List Answer) (i : ℕ) (a : Answer) (d : Command) (x y z : Flight C M) (buffer between after : List ℕ) → i < length ds → i < length answers
         → ExecutedAll meaning sound g ks says carries meddles x buffer (take i ds) (take i answers) y between
@@ -92,16 +117,18 @@ module _ {C M : Type 0} (meaning : C → Meaning) (sound : C → Type 0) (g : �
 -- a flight over a carrier that was opened just now has no life before
 module _ {C M F : Type 0} (meaning : C → Meaning) (sound : C → Type 0) (g : ℕ) (ks : List Kind) (says : C → ℕ → Note → Result Unit Fault → C → Type 0)
     (carries : C → ℕ → Result (Option Heard) Fault → C → Type 0) (meddles : C → ℕ → ℕ → Frame → Result Unit Fault → C → Type 0) (opens : F → Result C Fault → Type 0) where
-  pub flown : (from : F) (buffer after : List ℕ) (ds : List Command) (before answers : List Answer) (carrier : C) (start x : Flight C M) (n : ℕ)
+  pub flown : ((c : C) → sound c → Lawful (meaning c)) → (from : F) (buffer after : List ℕ) (ds : List Command) (before answers : List Answer) (carrier : C) (start x : Flight C M) (n : ℕ)
       → opens from (Ok carrier) → Opens meaning sound g ks carrier start → sound carrier → Fresh (meaning carrier) → n ≡ min (length ds) (length before)
       → ExecutedAll meaning sound g ks says carries meddles start buffer (take n ds) (take n answers) x after → drop n answers ≡ drop n before
       → Flown meaning sound g ks says carries meddles opens from buffer ds before answers x after
-  flown from buffer after ds before answers carrier start x n opened begun kept fresh count e rest =
+  flown law from buffer after ds before answers carrier start x n opened begun kept fresh count e rest =
       let life = e.promise [] (begun.begins kept fresh) in
       let whole = append-nil e.calls in
       record {
         carrier = carrier;
         opened = opened;
+        is_sound = kept;
+        is_fresh = fresh;
         start = start;
         begun = begun;
         executed = record {
@@ -111,6 +138,7 @@ module _ {C M F : Type 0} (meaning : C → Meaning) (sound : C → Type 0) (g : 
           promise = e.promise;
         };
         rest = subst (λ (i : ℕ). drop i answers ≡ drop i before) count rest;
+        kept = (steps_run meaning sound g ks says carries meddles law start x e.calls (subst sound (sym begun.carrier) kept) e.steps).1;
         lived = subst (λ (es : List Event). Lived meaning sound g ks es x) whole life.0;
         agrees = subst (λ (es : List Event). Agrees g ks es (state_of meaning x)) whole life.1;
       }

@@ -3,20 +3,22 @@
 --               or the line finds no room, and the slip is put back
 --   Does        the calls that a command made, with what came of it, and what they leave in the buffer
 --   Did         all calls that commands made, the newest first, with what came of each, and what they leave in the buffer
---   GoesOn      calls that lead from a flight to another go on with every life of the first, and then the craft agree
+--   GoesOn      calls that lead from a flight to another go on with every life of the first, and then the craft agree; and if the calls are carries
+--               alone, no more are accepted than the first flight's toil
 --   Executed    a command, what came of it, and what it leaves in the flight and the buffer
 --   ExecutedAll the same of a list of commands
 --   Flown       a carrier was opened, a flight over it, and that executed as many commands as there is room for answers; these calls are all its life,
 --               and the craft agree: nothing is assumed of the carrier, since opening it says what it is
 --   Flies       so; or the opening is refused, and nothing is done
-use Rattle.std.specs.Prelude.{◌≡◌, ℕ, List, [], ◌∷◌, ◌++◌, length, min, take, drop, Ok, Err, Option, Result}
+use Rattle.std.specs.Prelude.{◌≡◌, ℕ, ◌≤◌, List, [], ◌∷◌, ◌++◌, length, min, take, drop, Ok, Err, Option, Result}
 use Rattle.refusals.specs.declared.Fault.{Fault}
 use Rattle.refusals.specs.Refusals.{told}
 use Rattle.matter.specs.Layouts.{Kind}
 use Rattle.frames.specs.declared.notes.Note.{Note}
 use Rattle.frames.specs.declared.notes.Frame.{Frame}
-use Rattle.agreement.specs.Meanings.{Meaning}
-use Rattle.agreement.specs.Flights.{Event, collected, booked, returned, refused, collect, book}
+use Rattle.agreement.specs.Meanings.{Meaning, Fresh}
+use Rattle.agreement.specs.Flights.{Event, collected, booked, returned, refused, collect, book, flight_toil}
+use Rattle.agreement.specs.Runs.{Carries, accepted_in}
 use Rattle.agreement.specs.Agreement.{Agrees}
 use Rattle.carriers.specs.declared.heard.Heard.{Heard}
 use Rattle.flight.specs.declared.flight.Flight.{Flight}
@@ -59,6 +61,7 @@ module _ {C M : Type 0} (meaning : C → Meaning) (sound : C → Type 0) (g : �
   abbrev pub GoesOn : Flight C M → List Event → Flight C M → Type 0
   GoesOn x calls x' = (es : List Event) → Lived meaning sound g ks es x
       → Lived meaning sound g ks (calls ++ es) x' × Agrees g ks (calls ++ es) (state_of meaning x')
+      × (Carries calls → accepted_in calls ≤ flight_toil g (state_of meaning x))
 
   module _ (says : C → ℕ → Note → Result Unit Fault → C → Type 0) (carries : C → ℕ → Result (Option Heard) Fault → C → Type 0)
       (meddles : C → ℕ → ℕ → Frame → Result Unit Fault → C → Type 0) where
@@ -78,10 +81,13 @@ module _ {C M : Type 0} (meaning : C → Meaning) (sound : C → Type 0) (g : �
         (x : Flight C M) (after : List ℕ) : Type 0 where
       pub carrier : C
       pub opened : opens from (Ok carrier)
+      pub is_sound : sound carrier
+      pub is_fresh : Fresh (meaning carrier)
       pub start : Flight C M
       pub begun : Opens meaning sound g ks carrier start
       pub executed : ExecutedAll start buffer (take (min (length ds) (length before)) ds) (take (min (length ds) (length before)) answers) x after
       pub rest : drop (min (length ds) (length before)) answers ≡ drop (min (length ds) (length before)) before
+      pub kept : sound x.carrier
       pub lived : Lived meaning sound g ks executed.calls x
       pub agrees : Agrees g ks executed.calls (state_of meaning x)
 

@@ -1,7 +1,7 @@
 -- Calls with slips by what they answer. Assumes nothing.
 --   Collected    a slip has the labels that it was collected for, and is not spent
 --   GivenBack    a slip that was refused comes back
---   BookedLine   a slip that was refused comes back, and the buffer is as it was
+--   RefusedBook  the same of a book, which leaves the buffer as it was, too
 --   collect_event, book_event, return_event
 --                each call with its answer
 use Rattle.std.specs.Prelude.{◌≡◌, ℕ, false, List, Ok, Err, Result}
@@ -18,10 +18,10 @@ abbrev pub GivenBack : Slip → Result Unit (Slip × Fault) → Type 0
 GivenBack s (Ok _) = Unit {0}
 GivenBack s (Err e) = e.0 ≡ s
 
--- what an accepted book leaves in the buffer is said by its event
-abbrev pub BookedLine : Slip → List ℕ → Result Unit (Slip × Fault) → List ℕ → Type 0
-BookedLine s buffer (Ok _) after = Unit {0}
-BookedLine s buffer (Err e) after = (e.0 ≡ s) × (after ≡ buffer)
+-- what an accepted one leaves in the buffer is said by its event
+abbrev pub RefusedBook : Slip → List ℕ → Result Unit (Slip × Fault) → List ℕ → Type 0
+RefusedBook s buffer (Ok _) after = Unit {0}
+RefusedBook s buffer (Err e) after = (e.0 ≡ s) × (after ≡ buffer)
 
 abbrev pub collect_event : ℕ → ℕ → ℕ → Result Slip Fault → Event
 collect_event c o k (Ok _) = collected c o k

@@ -6,7 +6,7 @@ ghost use Rattle.agreement.specs.Flights.{Answered, collect, causes};
 ghost use Rattle.carriers.specs.Judging.{Judged};
 ghost use Rattle.flight.specs.Ledgers.{state_of};
 ghost use Rattle.flight.specs.Slips.{collect_event, book_event, return_event};
-ghost use Rattle.flight.specs.Slips.{Collected, BookedLine, GivenBack};
+ghost use Rattle.flight.specs.Slips.{Collected, RefusedBook, GivenBack};
 
 use crate::flight::Flight;
 use crate::slips::Slip;
@@ -68,7 +68,7 @@ impl<C: Carrier, M: Matter + Drop> Flight<C, M> {
         ensures step { Answered C.G M.kinds (state_of C.meaning self.old)
             (book_event slip at buffer.old result buffer.new) (state_of C.meaning self.new) }
         ensures carrier { self.new.carrier ≡ self.old.carrier }
-        ensures line { BookedLine slip buffer.old result buffer.new }
+        ensures refused { RefusedBook slip buffer.old result buffer.new }
     {
         let votes = self.table.votes(slip.craft, slip.origin, slip.number);
         let Some(word) = votes.out() else {

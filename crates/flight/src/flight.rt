@@ -3,11 +3,14 @@
 // flight after it, and after them any two craft that are not astray agree.
 use crate::slips::Slip;
 use carriers::{Carrier, Heard};
-use frames::Frame;
+use frames::{Frame, LAST_NUMBER};
 use matter::Matter;
 use refusals::Fault;
 use std::marker::PhantomData;
 use votes::{Delivery, LABEL_COUNT, Table};
+
+// How many orders a craft can make; of each, every craft says an Echo and a Ready at most.
+const NUMBERS: u32 = LAST_NUMBER as u32 + 1;
 
 /// What a carry lets a craft hear, and what is delivered to that craft by it.
 #[derive(Clone, Copy, PartialEq, Eq, Debug)]
@@ -37,7 +40,7 @@ impl<C: Carrier, M: Matter + Drop> Flight<C, M> {
     ghost use Rattle.flight.specs.Exact.{Exactly};
     ghost use Rattle.flight.specs.Lives.{Opens, Promises};
     ghost use Rattle.flight.specs.Slips.{collect_event, book_event, return_event};
-    ghost use Rattle.flight.specs.Slips.{Collected, BookedLine, GivenBack};
+    ghost use Rattle.flight.specs.Slips.{Collected, RefusedBook, GivenBack};
 
     /// A flight over a carrier, in which nothing is voted, ordered, out or booked. Over a carrier that was opened just now its life begins:
     /// that the carrier is fresh and sound is what the carrier's own opening gives.
@@ -59,13 +62,13 @@ impl<C: Carrier, M: Matter + Drop> Flight<C, M> {
         &self.carrier
     }
 
-    /// The flight's toil: how many carries can be accepted at most, with no other call between them, before nothing waits.
-    /// The carrier's toil, and its G for each Echo and Ready that is not said yet.
+    /// The flight's toil: of the carries that follow, with no other call between them, no more are accepted.
+    /// It is the carrier's toil, and its G for each Echo and Ready that is not said yet.
     pub fn toil(&self) -> u128
         ensures { result ≡ flight_toil C.G (state_of C.meaning self.now) }
     {
         let n = self.carrier.craft();
-        let notes = 8 * (u32::from(n) * u32::from(n));
+        let notes = 2 * NUMBERS * (u32::from(n) * u32::from(n));
         let unsaid = notes.saturating_sub(self.table.said(n));
         self.carrier.toil() + u128::from(C::G) * u128::from(unsaid)
     }
@@ -106,7 +109,8 @@ impl<C: Carrier, M: Matter + Drop> Flight<C, M> {
 
     /// The frame that waits at an index is carried, and whoever hears by it votes; 7, 8.
     pub fn carry(&mut self, index: usize) -> Result<Option<Hearing>, Fault>
-        ensures call { Calls C.meaning C.sound C.G M.kinds self.old (carry_event index result) self.new }
+        ensures call { Calls C.meaning C.sound C.G M.kinds
+            self.old (carry_event index result) self.new }
         ensures exact { C.sound self.old.carrier → Exactly C.meaning C.says C.carries C.meddles
             self.old (carry_event index result) self.new }
         ensures promise { Promises C.meaning C.sound C.G M.kinds
@@ -147,7 +151,7 @@ impl<C: Carrier, M: Matter + Drop> Flight<C, M> {
         ensures exact { self.new.carrier ≡ self.old.carrier }
         ensures promise { Promises C.meaning C.sound C.G M.kinds
             self.old (book_event slip at buffer.old result buffer.new) self.new }
-        ensures line { BookedLine slip buffer.old result buffer.new }
+        ensures refused { RefusedBook slip buffer.old result buffer.new }
     {
         self.step_book(slip, buffer, at)
     }

@@ -22,9 +22,13 @@ pub enum Command {
 /// What came of a command. Of a booking, what refused it: the collect, or the book, whose slip was put back.
 #[derive(Clone, Copy, PartialEq, Eq, Debug)]
 pub enum Answer {
+    /// The delivery to the craft that ordered.
     Ordered(Result<Option<Delivery>, Fault>),
+    /// Who heard what, and what was delivered by it.
     Carried(Result<Option<Hearing>, Fault>),
+    /// Whether the frame was put.
     Meddled(Result<(), Fault>),
+    /// Whether the line was written.
     Booked(Result<(), Fault>),
 }
 

@@ -31,8 +31,11 @@ pub(crate) fn speak<C: Carrier>(
     ensures step { C.sound carrier.old
         → Speaks C.G (C.meaning carrier.old) turn listener note.now result (C.meaning carrier.new)
         × C.sound carrier.new }
-    ensures exact { OnOk result (SaidAll C.says carrier.old listener (said turn note.now) carrier.new) }
+    ensures exact { OnOk result
+        (SaidAll C.says carrier.old listener (said turn note.now) carrier.new) }
 {
-    say_if(carrier, listener, turn.echo(note))?;
-    say_if(carrier, listener, turn.ready(note))
+    let echo = turn.echo(note);
+    let ready = turn.ready(note);
+    say_if(carrier, listener, echo)?;
+    say_if(carrier, listener, ready)
 }

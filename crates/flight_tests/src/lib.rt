@@ -1,6 +1,7 @@
 // Flights over both carriers and both link services.
 #![tactic(auto)]
 
+mod client;
 #[cfg(test)]
 mod commands;
 #[cfg(test)]

@@ -1,5 +1,6 @@
 // Slips: what a book and a put back answer, what they leave of the buffer, and slips of another flight.
 use crate::given::{OTHER_WORD, TWO, WORD, by_flight, direct, refused, relay, room, settle, spent};
+use crate::client::book_first;
 use carriers::Carrier;
 use flight::Flight;
 use frames::AnyMatter;
@@ -8,6 +9,7 @@ use putlog::PutLog;
 use refusals::{Layer, Refusal};
 use std::process::Abort;
 use std::test::Fail;
+use votes::Delivery;
 
 // What stands in a buffer before.
 const BLANK: [u8; 40] = [0xaa; 40];
@@ -52,6 +54,26 @@ fn books_in_place<C: Carrier>(
     spent(rt, flight.book(slip, &mut buffer, 12));
     assert_eq!(rt; &buffer[..12], &BLANK[..12]);
     assert_eq!(rt; &buffer[12..], b"book 1 0 2 01012c000e100c01\n".as_slice());
+    Ok(())
+}
+
+// A planner's code gets the slip of a delivery back where its buffer has no room for the line, and can book it again.
+#[test]
+fn a_planner_has_its_slip_back(rt: HostRuntime) -> Result<(), Fail> {
+    let mut flight = direct(PutLog::new(), &TWO, 0)?;
+    deliver(&rt, &mut flight, WORD)?;
+    let delivery = Delivery {
+        word: WORD,
+        craft: 1,
+        origin: 0,
+        number: 2,
+    };
+    let want = Some(Layer::Frames.refuses(Refusal::Short(28)));
+    let slip = refused(&rt, book_first(&mut flight, &delivery, &mut [])?, want);
+    spent(&rt, flight.put_back(slip));
+    let mut line = [0; 28];
+    spent(&rt, book_first(&mut flight, &delivery, &mut line)?);
+    assert_eq!(rt; &line, b"book 1 0 2 01012c000e100c01\n");
     Ok(())
 }
 
