@@ -54,11 +54,11 @@ module _ {C M : Type 0} (meaning : C → Meaning) (sound : C → Type 0) (g : �
   abbrev Took : Flight C M → Event → Flight C M → Type 0
   Took x e x' = CallStep meaning sound g ks says carries meddles x e x'
 
-  steps_live : (x x' : Flight C M) (calls es : List Event) → Goes x calls x' → Lived meaning sound g ks es x → Lived meaning sound g ks (calls ++ es) x'
+  pub steps_live : (x x' : Flight C M) (calls es : List Event) → Goes x calls x' → Lived meaning sound g ks es x → Lived meaning sound g ks (calls ++ es) x'
   steps_live x x' [] es flights.none life = life
   steps_live x x' (e ∷ calls) es (flights.then {y = y} steps step) life = lives.called (steps_live x y calls es steps life) step.call
 
-  steps_on : (x y z : Flight C M) (es calls : List Event) → Goes x es y → Goes y calls z → Goes x (calls ++ es) z
+  pub steps_on : (x y z : Flight C M) (es calls : List Event) → Goes x es y → Goes y calls z → Goes x (calls ++ es) z
   steps_on x y z es [] h flights.none = h
   steps_on x y z es (e ∷ calls) h (flights.then {y = w} steps step) = flights.then (steps_on x y w es calls h steps) step
 

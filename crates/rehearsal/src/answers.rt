@@ -34,11 +34,7 @@ impl fmt::Display for Outcome {
 }
 
 // A line: a record's count, what came of it, and a line feed.
-pub(crate) fn line_of(
-    alloc: Global,
-    count: usize,
-    outcome: &Outcome,
-) -> Result<Vec<u8>, AllocError>
+pub(crate) fn line_of(alloc: Global, count: usize, outcome: &Outcome) -> Result<Vec<u8>, AllocError>
     ensures { IfOk result (λ text. text.items ≡ line count (outcome_text outcome.now)) }
 {
     let text = format!(in alloc; "{count} {outcome}\n")?;

@@ -5,7 +5,7 @@ ghost use Rattle.votes.specs.Deliveries.{delivery};
 ghost use Rattle.flight.specs.Ledgers.{state_of};
 ghost use Rattle.rehearsal.specs.Records.{call_as};
 ghost use Rattle.rehearsal.specs.Texts.{outcome_text};
-ghost use Rattle.rehearsal.specs.Runs.{Settled, Due, Called, Booked, Stepped};
+ghost use Rattle.rehearsal.specs.Runs.{given, Settled, Due, Called, Booked, Stepped};
 
 use crate::answers::{Outcome, line_of};
 use crate::records::Call;
@@ -100,9 +100,9 @@ fn book<C: Carrier, M: Matter + Drop>(
     flight: &mut Flight<C, M>,
     delivery: &Delivery,
 ) -> [u8; Booking::LINE_LENGTH]
-    requires { Due (state_of C.meaning flight.old) delivery.now }
-    ensures booked { Booked C.meaning C.sound C.G M.kinds C.says C.carries C.meddles
-        delivery.now result flight.old flight.new }
+    requires { Due (state_of C.meaning flight.old) (given delivery.now) }
+    ensures { Booked C.meaning C.sound C.G M.kinds C.says C.carries C.meddles
+        (given delivery.now) result flight.old flight.new }
 {
     let mut line = [0; Booking::LINE_LENGTH];
     let Ok(slip) = flight.collect(delivery.craft, delivery.origin, delivery.number) else {

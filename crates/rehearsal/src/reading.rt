@@ -16,8 +16,11 @@ pub const RECORD_VERSION: u8 = 1;
 
 // The kinds of records.
 const OPEN: u8 = 1;
+
 const ORDER: u8 = 2;
+
 const CARRY: u8 = 3;
+
 const MEDDLE: u8 = 4;
 
 /// The length in bytes of a record of a version and a kind, with N craft where it is an open. None where the kind is unknown: such a record
@@ -120,8 +123,15 @@ impl<'a> Iterator for Records<'a> {
     fn next(&mut self) -> Option<Result<Record<'a>, Fault>> {
         let length = usize::from(*self.rest.first()?);
         let (bytes, rest) = self.rest.split_at(length.min(self.rest.len()));
-        let record = Record::from_bytes(bytes);
-        self.rest = if record.is_ok() { rest } else { &[] };
-        Some(record)
+        match Record::from_bytes(bytes) {
+            Ok(read) => {
+                self.rest = rest;
+                Some(Ok(read))
+            }
+            Err(fault) => {
+                self.rest = &[];
+                Some(Err(fault))
+            }
+        }
     }
 }

@@ -56,7 +56,7 @@ impl Opening<'_> {
 impl<'a> Record<'a> {
     /// The opening that a first record is due to be. Any other is refused by 16.
     pub fn opening(self) -> Result<Opening<'a>, Fault>
-        ensures { OpeningOf self result }
+        ensures { OpeningOf self.entry result }
     {
         match self {
             Record::Open(opening) => Ok(opening),
@@ -66,7 +66,7 @@ impl<'a> Record<'a> {
 
     /// The call that a later record is due to be. An open is refused by 16.
     pub fn call(self) -> Result<Call, Fault>
-        ensures { CallOf self result }
+        ensures { CallOf self.entry result }
     {
         match self {
             Record::Open(_) => Err(Layer::Frames.refuses(Refusal::Unknown)),

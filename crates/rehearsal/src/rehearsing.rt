@@ -6,6 +6,7 @@ ghost use Rattle.links.specs.EntryLists.{list_length};
 ghost use Rattle.cuts.specs.Causes.{open_direct_causes, open_relay_causes};
 ghost use Rattle.agreement.specs.Meanings.{Fresh};
 ghost use Rattle.rehearsal.specs.Openings.{pile_causes};
+ghost use Rattle.rehearsal.specs.Records.{OpeningNext, CallNext};
 ghost use Rattle.rehearsal.specs.Runs.{Flies};
 ghost use Rattle.rehearsal.specs.Rehearsals.{OverDirect, OverRelay, OverPile, Opened, Rehearsed};
 
@@ -13,16 +14,30 @@ use crate::answers::{Outcome, line_of};
 use crate::calls::step;
 use crate::piles::Pile;
 use crate::reading::Records;
-use crate::records::{Opening, Record};
+use crate::records::{Call, Opening, Record};
 use carriers::{Carrier, Direct};
 use cuts::{open_direct, open_relay};
 use flight::Flight;
 use links::{Entry, EntryList, LinkService};
 use matter::AnyMatter;
 use putlog::PutLog;
-use refusals::{Layer, Refusal};
+use refusals::{Fault, Layer, Refusal};
 use relay::Relay;
 use std::alloc::{AllocError, Global};
+
+// The opening that a first record is due to be; 14, 15, 16.
+fn due_opening(read: Result<Record<'_>, Fault>) -> Result<Opening<'_>, Fault>
+    ensures { OpeningNext read.entry result }
+{
+    read?.opening()
+}
+
+// The call that a later record is due to be; 14, 15, 16.
+fn due_call(read: Result<Record, Fault>) -> Result<Call, Fault>
+    ensures { CallNext read.entry result }
+{
+    read?.call()
+}
 
 // The records after an opening, over the carrier that it opened.
 fn fly<C: Carrier + Drop>(
@@ -33,13 +48,13 @@ fn fly<C: Carrier + Drop>(
     requires sound { C.sound carrier }
     requires fresh { Fresh (C.meaning carrier) }
     ensures { IfOk result (λ text. Flies C.meaning C.sound C.G C.says C.carries C.meddles
-        carrier records.rest.now text.items) }
+        carrier records.entry.rest.now text.items) }
 {
     let mut out = line_of(alloc, 1, &Outcome::Done)?;
     let mut flight: Flight<C, AnyMatter> = Flight::open(carrier);
     for (index, record) in records.enumerate() {
         let count = index + 2;
-        let call = record.and_then(Record::call);
+        let call = due_call(record);
         match call {
             Ok(call) => step(alloc, &mut flight, count, &call, &mut out)?,
             Err(fault) => {
@@ -62,7 +77,7 @@ fn fly_direct<L: LinkService + Drop>(
     requires { refusal (start_causes (L.meaning links)) ≡ None }
     ensures { IfOk result (λ text.
         Opened (open_direct_causes opening.now.rows.now opening.now.f)
-        (OverDirect L.meaning opening.now.rows.now opening.now.f records.rest.now) text.items) }
+        (OverDirect L.meaning opening.now.rows.now opening.now.f records.entry.rest.now) text.items) }
 {
     let chart = match open_direct(opening.rows, opening.f) {
         Ok(chart) => chart,
@@ -84,7 +99,7 @@ fn fly_relay<L: LinkService + Drop>(
     requires { refusal (start_causes (L.meaning links)) ≡ None }
     ensures { IfOk result (λ text.
         Opened (open_relay_causes opening.now.rows.now opening.now.f)
-        (OverRelay L.meaning opening.now.rows.now opening.now.f records.rest.now) text.items) }
+        (OverRelay L.meaning opening.now.rows.now opening.now.f records.entry.rest.now) text.items) }
 {
     let chart = match open_relay(opening.rows, opening.f) {
         Ok(chart) => chart,
@@ -104,14 +119,10 @@ fn lent_entries(alloc: Global) -> Result<Vec<Entry>, AllocError>
 }
 
 // The pile that is named, opened and flown.
-fn fly_pile(
-    alloc: Global,
-    opening: &Opening,
-    records: Records,
-) -> Result<Vec<u8>, AllocError>
+fn fly_pile(alloc: Global, opening: &Opening, records: Records) -> Result<Vec<u8>, AllocError>
     ensures { IfOk result (λ text.
         Opened (pile_causes opening.now.pile opening.now.rows.now opening.now.f)
-        (OverPile opening.now.pile opening.now.rows.now opening.now.f records.rest.now)
+        (OverPile opening.now.pile opening.now.rows.now opening.now.f records.entry.rest.now)
         text.items) }
 {
     match opening.pile {
@@ -138,7 +149,7 @@ pub fn rehearse(alloc: Global, input: &[u8]) -> Result<Vec<u8>, AllocError>
         let cut = Layer::Frames.refuses(Refusal::Cut);
         return line_of(alloc, 0, &Outcome::Refused(cut));
     };
-    let opening = first.and_then(Record::opening);
+    let opening = due_opening(first);
     match opening {
         Ok(opening) => fly_pile(alloc, &opening, records),
         Err(fault) => line_of(alloc, 1, &Outcome::Refused(fault)),
