@@ -3,7 +3,7 @@ ghost use Rattle.std.specs.Prelude.{◌≡◌, true, length};
 ghost use Rattle.std.specs.Iterator.{at_most};
 ghost use Rattle.matter.specs.Words.{word_in};
 ghost use Rattle.carriers.specs.Judging.{Judged};
-ghost use Rattle.rehearsal.specs.Records.{LengthOf, rightly_long, right_version, shape_causes};
+ghost use Rattle.rehearsal.specs.Records.{record_length, rightly_long, right_version, shape_causes};
 ghost use Rattle.rehearsal.specs.Records.{RecordRead, NextIs};
 
 use crate::piles::Pile;
@@ -25,14 +25,14 @@ const MEDDLE: u8 = 4;
 
 /// The length in bytes of a record of a version and a kind, with N craft where it is an open. None where the kind is unknown: such a record
 /// may have any length from 3. The length is judged ahead of the version, so a record of another version is due to be as long as one of this.
-pub fn record_length(_version: u8, kind: u8, n: u8) -> Option<usize>
-    ensures { LengthOf _version kind n result }
+pub fn record_length(version: u8, kind: u8, n: u8) -> Option<usize>
+    ensures { result ≡ record_length version kind n }
 {
-    match kind {
-        OPEN => Some(6 + usize::from(n)),
-        ORDER => Some(13),
-        CARRY => Some(5),
-        MEDDLE => Some(20),
+    match (version, kind) {
+        (_, OPEN) => Some(6 + usize::from(n)),
+        (_, ORDER) => Some(13),
+        (_, CARRY) => Some(5),
+        (_, MEDDLE) => Some(20),
         _ => None,
     }
 }

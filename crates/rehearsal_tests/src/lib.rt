@@ -1,0 +1,13 @@
+// Rehearsals at their edges: every refusal that a record can reach, records cut off, lengths, kinds, piles.
+#![tactic(auto)]
+
+#[cfg(test)]
+mod calls;
+#[cfg(test)]
+mod given;
+#[cfg(test)]
+mod openings;
+#[cfg(test)]
+mod shapes;
+#[cfg(test)]
+mod values;
