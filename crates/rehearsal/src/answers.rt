@@ -1,5 +1,5 @@
 // What the line of a record says.
-ghost use Rattle.std.specs.Prelude.{◌≡◌, Some, IfOk};
+ghost use Rattle.std.specs.Prelude.{◌≡◌, Some, IfOk, OnOk, ◌++◌};
 ghost use Rattle.rehearsal.specs.Texts.{line, outcome_text};
 
 use carriers::Heard;
@@ -39,4 +39,17 @@ pub(crate) fn line_of(alloc: Global, count: usize, outcome: &Outcome) -> Result<
 {
     let text = format!(in alloc; "{count} {outcome}\n")?;
     Ok(text.into_bytes())
+}
+
+// A line more.
+pub(crate) fn add_line(
+    alloc: Global,
+    count: usize,
+    outcome: &Outcome,
+    out: &mut Vec<u8>,
+) -> Result<(), AllocError>
+    ensures { OnOk result (out.new.items ≡ out.old.items ++ line count (outcome_text outcome.now)) }
+{
+    out.extend_from_slice(&line_of(alloc, count, outcome)?)?;
+    Ok(())
 }

@@ -7,7 +7,7 @@ ghost use Rattle.rehearsal.specs.Records.{call_as};
 ghost use Rattle.rehearsal.specs.Texts.{outcome_text};
 ghost use Rattle.rehearsal.specs.Runs.{given, Settled, Due, Called, Booked, Stepped};
 
-use crate::answers::{Outcome, line_of};
+use crate::answers::{Outcome, add_line};
 use crate::records::Call;
 use carriers::Carrier;
 use flight::Flight;
@@ -131,10 +131,10 @@ pub(crate) fn step<C: Carrier, M: Matter + Drop>(
         (call_as call.now) count flight.old flight.new out.old.items out.new.items) }
 {
     let answer = make_call(flight, call);
-    out.extend_from_slice(&line_of(alloc, count, &answer.outcome)?)?;
+    add_line(alloc, count, &answer.outcome, out)?;
     if let Some(delivery) = answer.delivery {
-        let line = book(flight, &delivery);
-        out.extend_from_slice(&line)?;
+        let booking = book(flight, &delivery);
+        out.extend_from_slice(&booking)?;
     }
     Ok(())
 }

@@ -10,7 +10,7 @@ ghost use Rattle.rehearsal.specs.Records.{OpeningNext, CallNext};
 ghost use Rattle.rehearsal.specs.Runs.{Flies};
 ghost use Rattle.rehearsal.specs.Rehearsals.{OverDirect, OverRelay, OverPile, Opened, Rehearsed};
 
-use crate::answers::{Outcome, line_of};
+use crate::answers::{Outcome, add_line, line_of};
 use crate::calls::step;
 use crate::piles::Pile;
 use crate::reading::Records;
@@ -58,8 +58,7 @@ fn fly<C: Carrier + Drop>(
         match call {
             Ok(call) => step(alloc, &mut flight, count, &call, &mut out)?,
             Err(fault) => {
-                let line = line_of(alloc, count, &Outcome::Refused(fault))?;
-                out.extend_from_slice(&line)?;
+                add_line(alloc, count, &Outcome::Refused(fault), &mut out)?;
                 return Ok(out);
             }
         }

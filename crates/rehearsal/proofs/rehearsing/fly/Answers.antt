@@ -1,4 +1,4 @@
-use Rattle.std.proofs.Common.{◌≡◌, ℕ, ◌+◌, List, ◌++◌, ap, ◌∙◌}
+use Rattle.std.proofs.Common.{◌≡◌, ℕ, ◌+◌, ap, ◌∙◌}
 use Rattle.std.specs.Iterator.Adapters.{enumerate_source, enumerate_count}
 use Rattle.rehearsal.proofs.Flying.{flying_open, flying_next, flown_all, flown_stop}
 use Rattle.rehearsal.proofs.rehearsing.fly.Goals as goal
@@ -16,8 +16,7 @@ loop-index-init g c =
 pub returns-in-Err : goal.returns-in-Err
 returns-in-Err g c =
     let next = c.in-Some.ensures.steps in
-    let text = c.in_ok-extend_from_slice-in-Err.ensures.items ∙ ap (λ (z : List ℕ). c.loop-index.out.items ++ z) (c.deref.ensures.value ∙ c.in_ok-line-in-Err.ensures) in
-    flown_stop _ _ _ _ _ _ g.C.LawfulCarrier.lawful _ _ _ _ _ _ _ c.loop-index.invariant _ _ _ _ _ next.0 c.due_call-call.ensures c.in-Err.is (ap (λ (k : ℕ). k + 2) next.1) text
+    flown_stop _ _ _ _ _ _ g.C.LawfulCarrier.lawful _ _ _ _ _ _ _ c.loop-index.invariant _ _ _ _ _ next.0 c.due_call-call.ensures c.in-Err.is (ap (λ (k : ℕ). k + 2) next.1) c.in_ok-add_line-in-Err.ensures
 
 pub loop-index-preserved : goal.loop-index-preserved
 loop-index-preserved g c =
