@@ -242,6 +242,10 @@ def words_of_word(word):
     return word.hex()
 
 
+def is_matter(word):
+    return words_of_word(word) != word.hex()
+
+
 def words_of_record(record):
     """A record in words, or nothing where no words give just these bytes."""
     length, version, kind, *body = record
