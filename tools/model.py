@@ -85,17 +85,24 @@ class Flight:
         self.hold(craft, (author, note), [0])
         return True
 
-    def hears_by_relay(self, sender, craft, frame):
+    def path_of(self, sender, craft, frame):
+        """The set that a craft holds of a frame, or nothing where the frame is dropped."""
         author, note, through = frame
         if author == craft or author >= self.n or not self.is_sound(author, note) or through >> self.n:
-            return False
+            return None
         if any(through >> label & 1 for label in (craft, sender, author)) or sender == author and through:
-            return False
+            return None
         path = through if sender == author else through | 1 << sender
-        family = self.shelves[craft].get((author, note), [])
-        if any(held & path == held for held in family):
+        if any(held & path == held for held in self.shelves[craft].get((author, note), ())):
+            return None
+        return path
+
+    def hears_by_relay(self, sender, craft, frame):
+        author, note, _ = frame
+        path = self.path_of(sender, craft, frame)
+        if path is None:
             return False
-        family = [held for held in family if held & path != path] + [path]
+        family = [held for held in self.shelves[craft].get((author, note), ()) if held & path != path] + [path]
         heard = not is_hit(family, self.f)
         going = 0 if heard else path
         told = going | 1 << author
