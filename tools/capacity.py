@@ -52,6 +52,28 @@ def one_missing(n):
     return [row & ~(0b11 ^ 1 << craft) if craft < 2 else row for craft, row in enumerate(all_linked(n))]
 
 
+def draws(seed):
+    """The upper sixteen bits of a linear congruential generator of 32 bits."""
+    while True:
+        seed = (seed * 1664525 + 1013904223) % 2 ** 32
+        yield seed >> 16
+
+
+def charts_by_chance(n, count):
+    """Charts of n craft that the relay opens on, with each link left out by one chance in eight, and at least one."""
+    numbers = draws(n)
+    while count:
+        rows = all_linked(n)
+        for a in range(n):
+            for b in range(a):
+                if next(numbers) % 8 == 0:
+                    rows[a] &= ~(1 << b)
+                    rows[b] &= ~(1 << a)
+        if rows != all_linked(n) and opens("relay", rows):
+            count -= 1
+            yield rows
+
+
 # --- which frame is carried next, by its index ---
 
 def oldest(flight):
@@ -73,14 +95,8 @@ def unlucky(flight):
 
 
 def by_chance(seed):
-    """Indices by a linear congruential generator of 32 bits: the upper sixteen, modulo how many frames wait."""
-    state = seed
-
-    def pick(flight):
-        nonlocal state
-        state = (state * 1664525 + 1013904223) % 2 ** 32
-        return (state >> 16) % len(flight.waiting)
-    return pick
+    numbers = draws(seed)
+    return lambda flight: next(numbers) % len(flight.waiting)
 
 
 # of each way to carry, what makes its picks: one for each time that it is tried
@@ -221,19 +237,19 @@ def made_up_alone(pile, f, rows, carried):
 CHARTS = [("direct", "all linked", all_linked), ("relay", "all linked", all_linked), ("relay", "0 and 1 not linked", one_missing)]
 
 
-def passes(carrier, n, chart):
-    """Whether the program opens the carrier on the chart of n craft."""
+def opens(carrier, rows):
+    """Whether the program opens the carrier on the chart."""
     pile = records.CARRIERS[carrier] + records.SERVICES["log"]
-    return Program.lines([records.open_record(pile, most_astray(n), chart(n))]) == ["1 done"]
+    return Program.lines([records.open_record(pile, most_astray(len(rows)), rows)]) == ["1 done"]
 
 
 def by_size(cell, sizes):
     """A line for each carrier, chart and link service, with a cell for each number of craft; one line for both services where they
     have the same."""
     for carrier, chart_name, chart in CHARTS:
-        opens = [passes(carrier, n, chart) for n in sizes]
+        passed = [opens(carrier, chart(n)) for n in sizes]
         lines = {service: [str(cell(records.CARRIERS[carrier] + records.SERVICES[service], most_astray(n), chart(n))) if due else "–"
-                           for n, due in zip(sizes, opens)] for service in SERVICES}
+                           for n, due in zip(sizes, passed)] for service in SERVICES}
         if lines["entries"] == lines["log"]:
             lines = {"both": lines["log"]}
         for service, cells in lines.items():
@@ -262,6 +278,15 @@ def orders_at_rest(picks, made_up=0):
     return lambda *opening: span([one_by_one(*opening, pick(), made_up).orders_at_rest for pick in picks])
 
 
+def on_charts_by_chance(count):
+    """A line for each link service: the orders that come to rest on so many charts, oldest first."""
+    sizes = range(5, 9)
+    for service in SERVICES:
+        pile = records.CARRIERS["relay"] + records.SERVICES[service]
+        yield [service, *(span([one_by_one(pile, most_astray(n), rows, oldest).orders_at_rest for rows in charts_by_chance(n, count)])
+                          for n in sizes)]
+
+
 def carries_of_an_order(pile, f, rows):
     return span([one_order(pile, f, rows, oldest, origin).carries for origin in range(len(rows))])
 
@@ -282,7 +307,7 @@ def relay_orders():
     """One order over the relay, for each way to carry: after how many carries it rests, or stops for want of room."""
     for n in WITH_F:
         for chart_name, chart in (("all linked", all_linked), ("0 and 1 not linked", one_missing)):
-            if not passes("relay", n, chart):
+            if not opens("relay", chart(n)):
                 continue
             for service in SERVICES:
                 line = [str(n), chart_name, service]
@@ -299,6 +324,8 @@ def tables():
     for name, picks in PICKS.items():
         yield sized(f"Orders that come to rest, one by one, {name}", orders_at_rest(picks))
         if name == "oldest first":
+            yield table("Orders that come to rest, one by one, oldest first, over the relay, on 20 charts with links left out by chance",
+                        ["service", *(f"N = {n}" for n in range(5, 9))], on_charts_by_chance(20))
             yield sized("The order after those: carries until it stops, and frames that wait then", the_next_order)
             yield sized("Carries that bring one order to rest, oldest first, over all origins", carries_of_an_order)
     yield sized("Orders that come to rest, oldest first, where all are made before the first carry", at_once)
