@@ -85,7 +85,8 @@ def newest(flight):
 
 
 def unlucky(flight):
-    """The newest frame that is not the last of its put, and that its craft may pass on: so a put log fills, and hardly a place gets free."""
+    """The newest frame that is not the last of its put, and that its craft may pass on: so a put log fills, and hardly a place in it
+    gets free."""
     for index in reversed(range(len(flight.waiting))):
         sender, craft, frame, put = flight.waiting[index]
         path = flight.path_of(sender, craft, frame)
@@ -216,7 +217,8 @@ def at_once(pile, f, rows):
     orders = all_orders(len(rows))
     for count in range(1, len(orders) + 1):
         rehearsal = Rehearsal(pile, f, rows)
-        room = all([rehearsal.order(craft, number) for craft, number in orders[:count]]) and rehearsal.carry_to_rest(oldest)
+        ordered = [rehearsal.order(craft, number) for craft, number in orders[:count]]
+        room = all(ordered) and rehearsal.carry_to_rest(oldest)
         rehearsal.told()
         if not room:
             return count - 1
@@ -248,8 +250,10 @@ def by_size(cell, sizes):
     have the same."""
     for carrier, chart_name, chart in CHARTS:
         passed = [opens(carrier, chart(n)) for n in sizes]
-        lines = {service: [str(cell(records.CARRIERS[carrier] + records.SERVICES[service], most_astray(n), chart(n))) if due else "–"
-                           for n, due in zip(sizes, passed)] for service in SERVICES}
+        lines = {}
+        for service in SERVICES:
+            pile = records.CARRIERS[carrier] + records.SERVICES[service]
+            lines[service] = [str(cell(pile, most_astray(n), chart(n))) if due else "–" for n, due in zip(sizes, passed)]
         if lines["entries"] == lines["log"]:
             lines = {"both": lines["log"]}
         for service, cells in lines.items():
@@ -316,7 +320,9 @@ def relay_orders():
                     told = [one_order(pile, most_astray(n), chart(n), pick()) for pick in picks]
                     rests = [one.carries for one in told if not one.waiting]
                     stops = [one.carries for one in told if one.waiting]
-                    line.append(", ".join(([f"rests: {span(rests)}"] if rests else []) + ([f"**stops: {span(stops)}**"] if stops else [])))
+                    ends = [f"rests: {span(rests)}"] if rests else []
+                    ends += [f"**stops: {span(stops)}**"] if stops else []
+                    line.append(", ".join(ends))
                 yield line
 
 
@@ -332,8 +338,10 @@ def tables():
     yield table("One order over the relay, in carries", ["N", "chart", "service", *PICKS], relay_orders())
     yield table("Orders that come to rest, one by one, with made-up notes ahead of each", ["made up", "frames", *heads(WITH_F)],
                 orders_beside_made_up())
-    yield sized("Made-up notes that there is room for, with no order, each carried to rest", lambda *opening: made_up_alone(*opening, True), WITH_F)
-    yield sized("Made-up notes that there is room for, with no order, none carried", lambda *opening: made_up_alone(*opening, False), WITH_F)
+    yield sized("Made-up notes that there is room for, with no order, each carried to rest",
+                lambda *opening: made_up_alone(*opening, True), WITH_F)
+    yield sized("Made-up notes that there is room for, with no order, none carried",
+                lambda *opening: made_up_alone(*opening, False), WITH_F)
 
 
 def timed():
