@@ -158,6 +158,8 @@ class Told:
     """What a program's lines tell: the orders, meddles and carries that were accepted, the carries since the last order, and how many
     frames wait at the end."""
 
+    last_order_waits = True  # whether what waits at the end is of the last order
+
     def __init__(self, written, lines):
         self.orders = self.meddles = self.carries = self.last_carries = self.waiting = 0
         answers = [line.split(" ", 1)[1] for line in lines if not line.startswith("book")]
@@ -180,8 +182,6 @@ class Told:
     def orders_at_rest(self):
         """How many orders came to rest, where each was carried before what came next."""
         return self.orders - (self.waiting > 0 and self.last_order_waits)
-
-    last_order_waits = True
 
 
 def all_orders(n):
