@@ -64,7 +64,7 @@ fn is_right_version(bytes: &[u8]) -> bool
 
 // 14 and 15 of bytes and a frame in them, cause by cause.
 fn judge_shape(bytes: &[u8]) -> Result<(), Fault>
-    ensures shape { Judged (shape_causes bytes.now) result }
+    ensures { Judged (shape_causes bytes.now) result }
 {
     if !is_rightly_long(bytes) {
         return Err(Layer::Frames.refuses(Refusal::Cut));

@@ -76,7 +76,8 @@ fn fly_direct<L: LinkService + Drop>(
     requires { refusal (start_causes (L.meaning links)) ≡ None }
     ensures { IfOk result (λ text.
         Opened (open_direct_causes opening.now.rows.now opening.now.f)
-        (OverDirect L.meaning opening.now.rows.now opening.now.f records.entry.rest.now) text.items) }
+        (OverDirect L.meaning opening.now.rows.now opening.now.f records.entry.rest.now)
+        text.items) }
 {
     let chart = match open_direct(opening.rows, opening.f) {
         Ok(chart) => chart,
@@ -98,7 +99,8 @@ fn fly_relay<L: LinkService + Drop>(
     requires { refusal (start_causes (L.meaning links)) ≡ None }
     ensures { IfOk result (λ text.
         Opened (open_relay_causes opening.now.rows.now opening.now.f)
-        (OverRelay L.meaning opening.now.rows.now opening.now.f records.entry.rest.now) text.items) }
+        (OverRelay L.meaning opening.now.rows.now opening.now.f records.entry.rest.now)
+        text.items) }
 {
     let chart = match open_relay(opening.rows, opening.f) {
         Ok(chart) => chart,

@@ -2,12 +2,7 @@
 // the rehearsal gives just that text, and how many lines it has. The texts come from a model in another language that shares no code with this.
 #![tactic(auto)]
 
-use std::fs;
-use std::io;
-
-fn lines_of(text: &[u8]) -> usize {
-    text.iter().filter(|&&byte| byte == b'\n').count()
-}
+use std::{fs, io};
 
 fn main(rt: HostRuntime) -> io::Result<()> {
     for name in rt.lines(rt.alloc()) {
@@ -17,7 +12,7 @@ fn main(rt: HostRuntime) -> io::Result<()> {
         let due = fs::read(&rt, due.as_str())?;
         let text = rehearsal::rehearse(rt.alloc(), &fs::read(&rt, input.as_str())?)?;
         let found = if text == due { "as due" } else { "differs" };
-        let count = lines_of(&text);
+        let count = text.iter().filter(|&&byte| byte == b'\n').count();
         println!(rt; "{name} {count} lines {found}")?;
     }
     Ok(())
