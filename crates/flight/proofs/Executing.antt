@@ -80,8 +80,7 @@ module _ {C M : Type 0} (meaning : C → Meaning) (sound : C → Type 0) (g : �
     goes_on : (x x' : Flight C M) (calls : List Event) → Goes x calls x' → GoesOn meaning sound g ks x calls x'
     goes_on x x' calls steps es life =
         let more = steps_live x x' calls es steps life in
-        let run = steps_run x x' calls (life_sound life) steps in
-        (
+        let run = steps_run x x' calls (life_sound life) steps in (
           more,
           agreement_over_lem law g ks (calls ++ es) _ _ more,
           λ carries. (agreement_over_lem law g ks es _ _ life).end calls (state_of meaning x') run.0 carries,

@@ -18,4 +18,4 @@ pub use flying::{execute_all, fly};
 pub use judging::LEAST_SPARE;
 pub use lists::{Answer, Command};
 pub use slips::Slip;
-pub use worked::{toil_after_one_order, worked_toil};
+pub use worked::worked_toil;

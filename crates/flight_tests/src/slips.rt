@@ -1,6 +1,6 @@
 // Slips: what a book and a put back answer, what they leave of the buffer, and slips of another flight.
-use crate::given::{OTHER_WORD, TWO, WORD, by_flight, direct, refused, relay, room, settle, spent};
 use crate::client::book_first;
+use crate::given::{OTHER_WORD, TWO, WORD, by_flight, direct, refused, relay, room, settle, spent};
 use carriers::Carrier;
 use flight::Flight;
 use frames::AnyMatter;

@@ -57,6 +57,16 @@ fn lists<C: Carrier>(rt: &impl Abort, flight: &mut Flight<C, AnyMatter>) -> Resu
     Ok(())
 }
 
+// Two frames wait, and 31 of the 32 Echoes and Readies are not said, each of them 7.
+#[test]
+fn the_toil_after_the_first_order_is_219(rt: HostRuntime) -> Result<(), Fail> {
+    let mut flight = direct(PutLog::new(), &TWO, 0)?;
+    assert_eq!(rt; flight.toil(), 7 * 32);
+    flight.order_word(0, 0, WORD)?;
+    assert_eq!(rt; flight.toil(), 219);
+    Ok(())
+}
+
 #[test]
 fn two_craft_agree_over_direct_and_entries(rt: HostRuntime) -> Result<(), Fail> {
     let mut list = room();
