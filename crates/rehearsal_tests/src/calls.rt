@@ -54,6 +54,11 @@ fn refused_meddles(rt: HostRuntime) -> Result<(), Fail> {
     )?;
     gives(
         &rt,
+        &[&TWO, &with(MEDDLE, 4, 2), &ORDER],
+        "1 done\n2 refused 1\n3 done\n",
+    )?;
+    gives(
+        &rt,
         &[&TWO, &with(MEDDLE, 4, 0), &ORDER],
         "1 done\n2 refused 9\n3 done\n",
     )?;

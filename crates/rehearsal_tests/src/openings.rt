@@ -30,6 +30,15 @@ fn piles(rt: HostRuntime) -> Result<(), Fail> {
     gives(&rt, &[&with(TWO, 3, 0), &ORDER], "1 refused 16\n")
 }
 
+// An unknown pile is told after length and version, and ahead of what its test would be refused by.
+#[test]
+fn piles_in_their_turn(rt: HostRuntime) -> Result<(), Fail> {
+    let unknown = with(TWO, 3, 9);
+    gives(&rt, &[&with(unknown, 5, 255), &ORDER], "1 refused 16\n")?;
+    gives(&rt, &[&with(unknown, 1, 2), &ORDER], "1 refused 15\n")?;
+    gives(&rt, &[&with(unknown, 4, 3), &ORDER], "1 refused 14\n")
+}
+
 #[test]
 fn sizes(rt: HostRuntime) -> Result<(), Fail> {
     gives(&rt, &[&[6, 1, 1, 1, 0, 0], &ORDER], "1 refused 2\n")?;
