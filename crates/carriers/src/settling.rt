@@ -1,6 +1,6 @@
 // Code over any carrier.
 ghost use Rattle.std.specs.Prelude.{◌≡◌, ℕ, ◌≤◌, true};
-ghost use Rattle.carriers.specs.Settling.{Settled, Tells};
+ghost use Rattle.carriers.specs.Settling.{Settled, SettledBy, Tells, ToldBy};
 
 use crate::carrier::Carrier;
 use frames::Note;
@@ -10,6 +10,7 @@ use refusals::Fault;
 pub fn settle<C: Carrier>(carrier: &mut C, budget: usize) -> usize
     ensures most { result ≤ budget }
     ensures settled { C.sound carrier.old → Settled (C.meaning carrier.old) budget result (C.meaning carrier.new) × C.sound carrier.new }
+    ensures exact { SettledBy C.carries carrier.old result carrier.new }
 {
     for carried in 0..budget {
         if carrier.waiting() == 0 || carrier.carry(0).is_err() {
@@ -27,7 +28,8 @@ pub fn tell<C: Carrier>(
     note: Note,
     budget: usize,
 ) -> Result<bool, Fault>
-    ensures { C.sound carrier.old → Tells C.G (C.meaning carrier.old) author note budget result (C.meaning carrier.new) × C.sound carrier.new }
+    ensures told { C.sound carrier.old → Tells C.G (C.meaning carrier.old) author note budget result (C.meaning carrier.new) × C.sound carrier.new }
+    ensures exact { ToldBy C.says C.carries carrier.old author note budget result carrier.new }
 {
     carrier.say(author, note)?;
     let _ = settle(carrier, budget);
