@@ -5,6 +5,7 @@
 --   told_at       what the entry taken tells is what was defined for its index
 --   say_step, drop_step, hear_step, meddle_step
 --                 what each call leaves
+--   say_puts      the link service takes what a say that the carrier does not refuse puts: no row is empty
 --   say_on, meddle_on   a say and a meddle whole, refused ones included
 use Rattle.std.specs.Prelude.{◌≡◌, ℕ, ◌+◌, ◌<◌, ◌≤◌, Bool, true, false, List, ◌++◌, length, Some, None, Ok, Err, Option, Result, slice_index, slice_index_or, refl}
 use Rattle.std.proofs.Common.{sym, ap, subst, ◌∙◌, ⊎_elim, arith}
@@ -23,7 +24,7 @@ use Rattle.cuts.specs.declared.complete.CompleteChart.{CompleteChart}
 use Rattle.links.specs.declared.entries.Entry.{Entry}
 use Rattle.links.specs.Meanings as links
 use Rattle.links.specs.Meanings.{entry_to, sent}
-use Rattle.links.specs.Calls.{Taken}
+use Rattle.links.specs.Calls.{Taken, put_causes}
 use Rattle.shelves.specs.declared.kinds.Shelf.{Shelf}
 use Rattle.charts.proofs.RowLaws.{own_lacks}
 use Rattle.shelves.specs.Shelves.{fewest, HeldAt, heard_on}
@@ -36,7 +37,7 @@ use Rattle.carriers.specs.Parts.{Parts, spare_of, own_frame, no_entry, Spoken, S
 use Rattle.carriers.specs.Directs.{rows_of_chart, meaning_of, straight, heard_of, hearing, Flows, Fitting}
 use Rattle.carriers.specs.ChartRows.{row_is}
 use Rattle.carriers.specs.Again.{adds_none}
-use Rattle.carriers.specs.Puts.{never, less_spare, le_refl, le_more, as_free, taken-below, say_puts, meddle_puts}
+use Rattle.carriers.specs.Puts.{never, less_spare, le_refl, le_more, as_free, taken-below, say_puts as row_put, meddle_puts}
 use Rattle.shelves.proofs.Hearing.{heard-held}
 use Rattle.carriers.specs.Meshes.{meshed, neighbour}
 use Rattle.carriers.specs.Accepted.{may_say, may_meddle, judged_meddle}
@@ -104,6 +105,14 @@ module _ (c : CompleteChart) (p : Parts) (s : Fitting c p) where
         },
       )
 
+  pub say_puts : (a : ℕ) (x : Note) → refusal (saying_causes n (spare_of p) a x) ≡ None
+      → (set : ℕ) → set ≡ slice_index (rows_of_chart c) a → refusal (put_causes p.links.rows p.links.spare a set) ≡ None
+  say_puts a x ok set q =
+      let may = may_say n (spare_of p) a x ok in
+      let some = subst (λ (i : ℕ). 0 < i) (sym (row_is c.chart a)) (neighbour (rows_of_chart c) n (meshed c) c.chart.few.0 a may.label) in
+      subst (λ (i : ℕ). refusal (put_causes p.links.rows p.links.spare a i) ≡ None) (row_is c.chart a ∙ sym q)
+      (row_put c.chart p.links s.rows (spare_of p) a x ok (omega arith) some)
+
   pub say_on : (a : ℕ) (x : Note) (r : Result Unit Fault) (p' : Parts) → SaysOn c.chart p a x r p' → Say 7 (meaning_of c p) a x r (meaning_of c p') × Fitting c p'
   say_on a x (Ok _) p' (ok, again, spoken) = ⊎_elim
       (λ (old : heard_on p.shelves a a x ≡ true). subst (λ (q : Parts). Say 7 (meaning_of c p) a x (Ok _) (meaning_of c q) × Fitting c q) (sym (again old)) (
@@ -125,9 +134,7 @@ module _ (c : CompleteChart) (p : Parts) (s : Fitting c p) where
   say_on a x (Err e) p' (same, why) = ⊎_elim
       (λ (h : refusal (saying_causes n (spare_of p) a x) ≡ Some (told e)).
       ((h, ap (meaning_of c) same), subst (Fitting c) (sym same) s))
-      (λ h. never _ _ (say_puts c.chart p.links s.rows (spare_of p) a x h.0 (omega arith)
-      (let may = may_say n (spare_of p) a x h.0 in
-      subst (λ (i : ℕ). 0 < i) (sym (row_is c.chart a)) (neighbour (rows_of_chart c) n (meshed c) c.chart.few.0 a may.label))) h.1)
+      (λ h. never _ _ (say_puts a x h.0 _ (row_is c.chart a)) h.1)
       why
 
   -- ---- carry
