@@ -30,10 +30,10 @@ meets_tells s h = (
   λ l. not_from_false _ (ne_eqb (shared s h) 0 (λ e. omega arith)),
 )
 
-meets_all : (s h : ℕ) → meeting s h ≡ true → 0 < shared s h
+pub meets_all : (s h : ℕ) → meeting s h ≡ true → 0 < shared s h
 meets_all s h = (meets_tells s h).0
 
-meets_none : (s h : ℕ) → meeting s h ≡ false → shared s h ≡ 0
+pub meets_none : (s h : ℕ) → meeting s h ≡ false → shared s h ≡ 0
 meets_none s h e = eqb-true (shared s h) 0 (not-false _ e)
 
 each_tells : (ss : List ℕ) (k h : ℕ) → Decides (leb (count h) k && hits h ss) ((count h ≤ k) × Hits h ss)
