@@ -21,7 +21,7 @@ pub struct Row {
 // One craft's rows, the oldest first.
 #[derive(Drop)]
 pub struct Shelf {
-    pub rows: ArrayVec<Row, 120>,
+    pub rows: ArrayVec<Row, { Shelf::LENGTH }>,
     ghost few: { array_vec_len rows ≤ shelf_length },
 }
 
