@@ -7,8 +7,8 @@
 --   Tells     so where the say is accepted; where it is refused, nothing changes. g is the most that one say adds to the toil
 --   CarriedBy   r carries of the frame at index 0 lead from one carrier to another, by the carrier's own steps, which name the frame that is taken:
 --               the meaning of a carrier alone does not, since it counts what waits and no more
---   SettledBy   r such carries, and after them none, or one that is refused
---   ToldBy      a say by the carrier's own step and then, where it is accepted, at most `budget` such carries
+--   SettledBy   r such carries, and after them none, or one within the budget that is refused
+--   ToldBy      a say by the carrier's own step and then, where it is accepted, such carries within the budget; they are those that settle what waits
 use Rattle.std.specs.Prelude.{◌≡◌, ℕ, zero, suc, ◌+◌, ◌<◌, ◌≤◌, Bool, true, ◌⊎◌, ◌++◌, Some, None, Ok, Err, Option, Result, ◌==◌}
 use Rattle.refusals.specs.declared.Fault.{Fault}
 use Rattle.refusals.specs.Refusals.{refusal, told}
@@ -53,10 +53,11 @@ abbrev pub CarriedBy : {A : Type 0} → (A → ℕ → Result (Option Heard) Fau
 CarriedBy carries c zero c' = c' ≡ c
 CarriedBy {A} carries c (suc r) c' = (w : A) × CarriedBy carries c r w × ((t : Option Heard) × carries w 0 (Ok t) c')
 
-abbrev pub SettledBy : {A : Type 0} → (A → ℕ → Result (Option Heard) Fault → A → Type 0) → A → ℕ → A → Type 0
-SettledBy {A} carries c r c' = (w : A) × CarriedBy carries c r w × ((c' ≡ w) ⊎ ((e : Fault) × carries w 0 (Err e) c'))
+abbrev pub SettledBy : {A : Type 0} → (A → ℕ → Result (Option Heard) Fault → A → Type 0) → A → ℕ → ℕ → A → Type 0
+SettledBy {A} carries c budget r c' = (w : A) × CarriedBy carries c r w × ((c' ≡ w) ⊎ ((r < budget) × ((e : Fault) × carries w 0 (Err e) c')))
 
 abbrev pub ToldBy : {A : Type 0} → (A → ℕ → Note → Result Unit Fault → A → Type 0) → (A → ℕ → Result (Option Heard) Fault → A → Type 0)
-    → A → ℕ → Note → ℕ → Result Bool Fault → A → Type 0
-ToldBy {A} says carries c a t budget (Ok rests) c' = (w : A) × ((u : Unit {0}) × says c a t (Ok u) w) × ((r : ℕ) × (r ≤ budget) × SettledBy carries w r c')
-ToldBy says carries c a t budget (Err e) c' = says c a t (Err e) c'
+    → (A → ℕ → A → Type 0) → A → ℕ → Note → ℕ → Result Bool Fault → A → Type 0
+ToldBy {A} says carries settles c a t budget (Ok rests) c' =
+    (w : A) × ((u : Unit {0}) × says c a t (Ok u) w) × ((r : ℕ) × (r ≤ budget) × SettledBy carries w budget r c' × settles w r c')
+ToldBy says carries settles c a t budget (Err e) c' = says c a t (Err e) c'

@@ -10,7 +10,7 @@ use refusals::Fault;
 pub fn settle<C: Carrier>(carrier: &mut C, budget: usize) -> usize
     ensures most { result ≤ budget }
     ensures settled { C.sound carrier.old → Settled (C.meaning carrier.old) budget result (C.meaning carrier.new) × C.sound carrier.new }
-    ensures exact { SettledBy C.carries carrier.old result carrier.new }
+    ensures exact { SettledBy C.carries carrier.old budget result carrier.new }
 {
     for carried in 0..budget {
         if carrier.waiting() == 0 || carrier.carry(0).is_err() {
@@ -29,7 +29,9 @@ pub fn tell<C: Carrier>(
     budget: usize,
 ) -> Result<bool, Fault>
     ensures told { C.sound carrier.old → Tells C.G (C.meaning carrier.old) author note budget result (C.meaning carrier.new) × C.sound carrier.new }
-    ensures exact { ToldBy C.says C.carries carrier.old author note budget result carrier.new }
+    ensures exact { ToldBy C.says C.carries
+        (λ w r c. C.sound w → Settled (C.meaning w) budget r (C.meaning c))
+        carrier.old author note budget result carrier.new }
 {
     carrier.say(author, note)?;
     let _ = settle(carrier, budget);
